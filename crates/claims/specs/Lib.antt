@@ -1,4 +1,9 @@
 -- Theorems about the rules alone, each under its document's name.
 pub mod Tests
 pub mod Steps
+pub mod Members
+pub mod Places
+pub mod Clashes
+pub mod Fates
+pub mod Deliveries
 pub mod Timing
