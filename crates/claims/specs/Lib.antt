@@ -6,4 +6,5 @@ pub mod Places
 pub mod Clashes
 pub mod Fates
 pub mod Deliveries
+pub mod Heads
 pub mod Timing

@@ -85,6 +85,11 @@ module _ {A : Type 0} where
   any-append f [] ys = refl
   any-append f (x ∷ xs) ys = split (f x) (λ q. rw q) (λ q. rw (q, any-append f xs ys))
 
+  pub none-all : (f : A → Bool) (xs : List A) → any f xs ≡ false ↔ (all (λ x. not (f x)) xs ≡ true)
+  none-all f [] = (λ h. refl, λ h. refl)
+  none-all f (x ∷ xs) =
+      split (f x) (λ q. rw q (λ h. absurd (true≢false h), λ h. absurd (false≢true h))) (λ q. rw q (none-all f xs))
+
   pub all-take : (f : A → Bool) (n : ℕ) (xs : List A) → all f xs ≡ true → all f (take n xs) ≡ true
   all-take f zero xs h = refl
   all-take f (suc n) [] h = refl
