@@ -58,7 +58,7 @@ module _ {A : Type 0} where
       take-shorter (suc m) (y ∷ ys) = ap (λ (l : List A). y ∷ l) (take-shorter m ys)
 
   -- What falls out of the newest n as one joins them, and what had fallen out before, are what falls out of all.
-  drop-take : (d n : ℕ) (xs : List A) → d ≤ n → drop d xs ≡ drop d (take n xs) ++ drop n xs
+  pub drop-take : (d n : ℕ) (xs : List A) → d ≤ n → drop d xs ≡ drop d (take n xs) ++ drop n xs
   drop-take zero n xs h = sym (take-append-drop n xs)
   drop-take (suc d) zero xs h = absurd (not-suc-le-zero h)
   drop-take (suc d) (suc n) [] h = refl
@@ -75,11 +75,11 @@ pub commit-books : (t : Transaction) (h : List Transaction) (b : Books) → Book
 unfolding committed
 commit-books t h b k =
     record {
-        counted = ap (λ (n : ℕ). n + 1) (k .counted) ∙ omega arith;
-        kept = ap (λ (l : List Commit). take most-kept (kept-of t ∷ l)) (k .kept) ∙ take-cons-take most-kept (kept-of t) (map kept-of h);
-        folded-in =
-            ap₂ (λ (l : List Commit) (values : List ℤ). folded (drop most-kept (kept-of t ∷ l)) values) (k .kept) (k .folded-in)
-            ∙ fold-one-more 63 (kept-of t) (map kept-of h) (replicate keys (pos 0))
+      counted = ap (λ (n : ℕ). n + 1) (k .counted) ∙ omega arith;
+      kept = ap (λ (l : List Commit). take most-kept (kept-of t ∷ l)) (k .kept) ∙ take-cons-take most-kept (kept-of t) (map kept-of h);
+      folded-in =
+          ap₂ (λ (l : List Commit) (values : List ℤ). folded (drop most-kept (kept-of t ∷ l)) values) (k .kept) (k .folded-in)
+          ∙ fold-one-more 63 (kept-of t) (map kept-of h) (replicate keys (pos 0));
     }
 
 -- A head that is taken off lays itself on the history if it commits; closing does so head by head.

@@ -2,6 +2,7 @@
 pub mod Tests
 pub mod Steps
 pub mod Members
+pub mod SameStates
 pub mod Refused
 pub mod Bits
 pub mod SoundParts
@@ -13,4 +14,5 @@ pub mod Fates
 pub mod Deliveries
 pub mod Heads
 pub mod History
+pub mod Reads
 pub mod Timing

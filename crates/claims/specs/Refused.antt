@@ -10,14 +10,14 @@ use native.Mathlib.Omega.{arith}
 use borrow.Author.Tests.{le-ltb, not-false}
 use Rattle.rules.specs.Lists.{any}
 use Rattle.rules.specs.Sizes.{most-waiting}
-use Rattle.rules.specs.Ledger.{State, Clock, Same, sizes-fit}
+use Rattle.rules.specs.Ledger.{State, Clock, sizes-fit}
 use Rattle.rules.specs.Partitions.{Ballot}
 use Rattle.rules.specs.Delivery.{Fate, abort, join}
 use Rattle.rules.specs.Soundness.{sound}
 use Rattle.rules.specs.Events.{Event, delivery, vote, change, read, refused, Step, accepted, closing, delivered, deliver-at, deliver-with, take-vote, take-change, take-read}
 use Rattle.rules.specs.Refusals.{Check, first-of, checks, refusal, unless-refused, step, opening-refusal, too-little-room, desk-checks, desk}
 use Rattle.claims.specs.Tests.{split, or-left, or-right, or-neither}
-use Rattle.claims.specs.Steps.{refused-or, step-refused, step-accepted}
+use Rattle.claims.specs.Steps.{step-refused}
 
 abbrev pub applies : Check → Bool
 applies c = c .holds
@@ -139,6 +139,7 @@ room-enough room (vote i p b) h = le-ltb room most-waiting h
 room-enough room (change k) h = le-ltb room most-waiting h
 room-enough room (read key st) h = refl
 
+-- What no check applies to is taken.
 pub desk-accepted : (room : ℕ) (e : Event) (s : State) → first-of (desk-checks room e s) ≡ none → desk room e s ≡ accepted e s
 unfolding desk unless-refused
 desk-accepted room e s q = rw q
@@ -166,7 +167,7 @@ unfolding unless-refused
 refused-by none e s n q = absurd (accepted-or-refused e s n q)
 refused-by (some m) e s n q = cc
 
--- Every refusal "is given only when its condition holds and no earlier check applies", and then it is given: of a sound state, and of any.
+-- Every refusal "is given only when its condition holds and no earlier check applies", and then it is given: by the step, and by the desk.
 pub step-answers : (e : Event) (s : State) (n : ℕ) → step e s .answer ≡ refused n ↔ Given (checks e s) n
 unfolding step refusal
 step-answers e s n = (

@@ -116,12 +116,12 @@ join-sound c (abort reason) e waiting b room new good h = h
 join-sound c (join i) e waiting b room new good h = insert-sound c i e waiting b room new good h
 
 -- Writing keeps the number of values.
-length-written : (ws : List Write) (values : List ℤ) → length (written ws values) ≡ length values
+pub length-written : (ws : List Write) (values : List ℤ) → length (written ws values) ≡ length values
 unfolding written
 length-written [] values = refl
 length-written (w ∷ ws) values = length-set (written ws values) (w .key) (w .value) ∙ length-written ws values
 
-length-folded : (cs : List Commit) (values : List ℤ) → length (folded cs values) ≡ length values
+pub length-folded : (cs : List Commit) (values : List ℤ) → length (folded cs values) ≡ length values
 unfolding folded
 length-folded [] values = refl
 length-folded (c ∷ cs) values = length-written (c .writes) (folded cs values) ∙ length-folded cs values

@@ -35,7 +35,7 @@ taken-set : (xs : List ℕ) → too-many xs ≡ false → bad-keys xs ≡ false 
 unfolding good-set
 taken-set xs few good = and-both (not (too-many xs)) (not (bad-keys xs)) (ap not few) (ap not good)
 
--- Nobody's votes come from other involved partitions.
+-- An empty set of votes holds none but those of other involved partitions.
 none-from-others : (own set : ℕ) → from-others own set 0 ≡ true
 unfolding from-others names
 none-from-others own set = refl
@@ -107,18 +107,18 @@ others-with own set p voters l involved h =
     (and-right (not (beyond most-partitions voters)) (all (λ q. not (names voters q) || other own set q) every-partition) h))
 
 -- The entry of the vote's identity with the vote, and any other entry as it was.
-abbrev hearing : ℕ → Ballot → Entry → Entry
+abbrev pub hearing : ℕ → Ballot → Entry → Entry
 hearing p b e = record { transaction = e .transaction; rt = e .rt; heard = hear p b (e .heard) }
 
-with-vote-heard : (i p : ℕ) (b : Ballot) (e : Entry) → is-for i e ≡ true → with-vote i p b e ≡ hearing p b e
+pub with-vote-heard : (i p : ℕ) (b : Ballot) (e : Entry) → is-for i e ≡ true → with-vote i p b e ≡ hearing p b e
 unfolding with-vote
 with-vote-heard i p b e q = rw q
 
-with-vote-other : (i p : ℕ) (b : Ballot) (e : Entry) → is-for i e ≡ false → with-vote i p b e ≡ e
+pub with-vote-other : (i p : ℕ) (b : Ballot) (e : Entry) → is-for i e ≡ false → with-vote i p b e ≡ e
 unfolding with-vote
 with-vote-other i p b e q = rw q
 
--- The partition of a set that is opened, named by it, is one of the eight.
+-- An involved partition of a good set is one of the eight.
 opened : (partitions own k set p : ℕ) → Sizes partitions own k → bad-set partitions own set ≡ false → other own set p ≡ true → p < most-partitions
 unfolding bad-set other
 opened partitions own k set p sizes good involved =
@@ -159,14 +159,15 @@ vote-good partitions own k dc i p b e sizes h involved =
     (λ q. rw (with-vote-other i p b e q) h)
 
 -- A test of each element is kept by a map that keeps it where another test fails.
-all-map : {A : Type 0} (f bad : A → Bool) (g : A → A) → ((x : A) → f x ≡ true → bad x ≡ false → f (g x) ≡ true)
+pub all-map : {A : Type 0} (f bad : A → Bool) (g : A → A) → ((x : A) → f x ≡ true → bad x ≡ false → f (g x) ≡ true)
     → (xs : List A) → all f xs ≡ true → any bad xs ≡ false → all f (map g xs) ≡ true
 all-map f bad g keeps [] h n = refl
 all-map f bad g keeps (x ∷ xs) h n =
     and-both (f (g x)) (all f (map g xs)) (keeps x (and-left (f x) (all f xs) h) (or-left (bad x) (any bad xs) n))
     (all-map f bad g keeps xs (and-right (f x) (all f xs) h) (or-right (bad x) (any bad xs) n))
 
-identities-vote : (i p : ℕ) (b : Ballot) (es : List Entry) → identities (map (with-vote i p b) es) ≡ identities es
+-- A vote changes no identity.
+pub identities-vote : (i p : ℕ) (b : Ballot) (es : List Entry) → identities (map (with-vote i p b) es) ≡ identities es
 unfolding with-vote
 identities-vote i p b [] = refl
 identities-vote i p b (e ∷ es) = ap (λ l. e .transaction .identity ∷ l) (identities-vote i p b es)
