@@ -15,4 +15,6 @@ pub mod Deliveries
 pub mod Heads
 pub mod History
 pub mod Reads
+pub mod Counts
+pub mod FullList
 pub mod Timing
