@@ -1,18 +1,18 @@
 -- The clash in 01's words: which key is shared, and which commits of which versions are looked at.
-use Prim.Native.Nat.{ℕ, zero, suc, _+_, _-_, _≤_, _<_, zero-le, suc-le-suc}
-use mathlib.Core.Bool.{Bool, true, false, not, cond, _&&_, _||_}
+use Prim.Native.Nat.{ℕ, zero, suc, _+_, _-_, _<_, zero-le, suc-le-suc}
+use mathlib.Core.Bool.{Bool, true, false, not, _&&_}
 use mathlib.Core.List.{List, [], _∷_, _++_}
 use mathlib.Core.Logic.{_↔_, _⊎_, inl, inr, ⊎-elim}
-use mathlib.Core.Path.{_≡_, refl, sym, ap, _∙_, subst}
+use mathlib.Core.Path.{_≡_, refl, ap}
 use borrow.Author.Tests.{not-true}
 use native.Mathlib.Nat.{le-of-suc-le-suc, not-suc-le-zero}
 use native.Mathlib.Omega.{arith}
-use lib.ListN.{length, take, drop}
+use lib.ListN.{length, take}
 use Rattle.rules.specs.Lists.{any}
 use Rattle.rules.specs.Keys.{meet}
 use Rattle.rules.specs.Ledger.{Transaction, Commit, Books, keys-of, is-local}
 use Rattle.rules.specs.Delivery.{clash, clash-commit, commits-after}
-use Rattle.claims.specs.Tests.{split, never, and-left, and-right, and-both, or-cases, or-first, or-second}
+use Rattle.claims.specs.Tests.{never, and-left, and-right, and-both, or-cases, or-first, or-second}
 use Rattle.claims.specs.Members.{Common, meet-exactly}
 
 -- "Clash: it read a key that the commit wrote; for a global one also, it writes a key that the commit read."

@@ -1,14 +1,13 @@
 -- 01's first fact: accepted deliveries equal commits, aborts and waiting together, the aborts counted from the answers given. And DC, SC and
 -- the number of finishes are the log's own counts.
-use Prim.Native.Nat.{ℕ, zero, suc, _+_}
-use mathlib.Core.Bool.{Bool, true, false, cond}
+use Prim.Native.Nat.{ℕ, suc, _+_}
 use mathlib.Core.List.{List, [], _∷_, _++_, map}
-use mathlib.Core.Option.{Option, none, some}
-use mathlib.Core.Path.{_≡_, refl, sym, ap, _∙_}
+use mathlib.Core.Option.{Option}
+use mathlib.Core.Path.{_≡_, refl, sym, _∙_}
 use native.Mathlib.Omega.{arith}
 use lib.ListN.{length, length-append, length-map}
 use Rattle.rules.specs.Partitions.{Ballot, none-heard}
-use Rattle.rules.specs.Ledger.{Transaction, Entry, Clock, Books, State, opening, is-local}
+use Rattle.rules.specs.Ledger.{Entry, Clock, Books, State, opening, is-local}
 use Rattle.rules.specs.Delivery.{ticked, entered, Fate, abort, join, fate, joined, vote-to-send}
 use Rattle.rules.specs.Closing.{ready, commits, committed, Outcome, version, aborts, Finish, finish, books-after, close}
 use Rattle.rules.specs.Events.{Event, delivery, vote, change, read, Answer, refused, waits, aborted, voted, changed, value, Step, closing, delivered, deliver-at, deliver-with, with-vote, take-vote, with-k, take-change, take-read, accepted}

@@ -1,12 +1,11 @@
 -- Demand 2 for a delivery that isn't refused: its own answer is the one that 01's three numbered rules give, and tells the host which vote to send.
 use Prim.Native.Nat.{ℕ, _+_}
-use mathlib.Core.Bool.{Bool, true, false, cond}
+use mathlib.Core.Bool.{cond}
 use mathlib.Core.Logic.{_↔_, Iff·trans}
-use mathlib.Core.Option.{Option, none, some}
-use mathlib.Core.Path.{_≡_, refl, sym, _∙_}
-use native.Mathlib.Omega.{arith}
-use Rattle.rules.specs.Partitions.{Ballot, aye, nay, none-heard}
-use Rattle.rules.specs.Ledger.{Transaction, Clock, State, is-local}
+use mathlib.Core.Option.{none, some}
+use mathlib.Core.Path.{_≡_, sym, _∙_}
+use Rattle.rules.specs.Partitions.{aye, nay}
+use Rattle.rules.specs.Ledger.{Transaction, State, is-local}
 use Rattle.rules.specs.Delivery.{ticked, Fate, abort, join, fate, vote-to-send}
 use Rattle.rules.specs.Events.{delivery, Answer, waits, aborted, closing, delivered, deliver-at, deliver-with, accepted}
 use Rattle.rules.specs.Refusals.{refusal, step}

@@ -1,23 +1,20 @@
 -- Demand 2 for a delivery: reasons 1, 2 and 3 and the place, each given exactly when 01 says so, of the answer of a delivery that isn't refused.
-use Prim.Native.Nat.{ℕ, zero, suc, _+_, _≤_, _<_}
-use mathlib.Core.Bool.{Bool, true, false, not, cond, _&&_, _||_}
-use mathlib.Core.List.{List, [], _∷_, _++_, List·Memᴰ}
+use Prim.Native.Nat.{ℕ, _≤_, _<_}
+use mathlib.Core.Bool.{Bool, true, false, cond}
+use mathlib.Core.List.{List, List·Memᴰ}
 use mathlib.Core.Logic.{_↔_, _⊎_, inl, inr, ⊎-elim}
 use mathlib.Core.Option.{Option, none, some}
 use mathlib.Core.Path.{_≡_, refl, sym, ap, _∙_, subst}
 use native.Mathlib.Omega.{arith}
-use lib.ListN.{length, take, drop}
+use lib.ListN.{length}
 use Rattle.rules.specs.Lists.{any}
-use Rattle.rules.specs.Partitions.{Ballot, aye, nay, none-heard}
-use Rattle.rules.specs.Ledger.{Transaction, Entry, Clock, Books, State, keys-of, is-local}
+use Rattle.rules.specs.Ledger.{Transaction, Entry, Clock, Books, keys-of, is-local}
 use Rattle.rules.specs.Place.{place}
-use Rattle.rules.specs.Delivery.{ticked, blocks, passes, clash-commit, clash-entry, commits-after, Fate, abort, join, placed, fate, vote-to-send}
-use Rattle.rules.specs.Events.{Event, delivery, Answer, waits, aborted, closing, delivered, deliver-at, deliver-with, accepted}
-use Rattle.rules.specs.Refusals.{refusal, step}
+use Rattle.rules.specs.Delivery.{blocks, passes, clash-commit, clash-entry, commits-after, Fate, abort, join, placed, fate}
+use Rattle.rules.specs.Events.{waits}
 use Rattle.claims.specs.Tests.{split, never}
-use Rattle.claims.specs.Steps.{step-accepted}
 use Rattle.claims.specs.Members.{any-found, any-member}
-use Rattle.claims.specs.Places.{Least, Lawful, place-least, LawfulPlace, lawful-exactly}
+use Rattle.claims.specs.Places.{Least, place-least, LawfulPlace, lawful-exactly}
 use Rattle.claims.specs.Clashes.{Clash, clash-exactly, ClashingCommit, commits-exactly}
 
 -- The earliest lawful place.

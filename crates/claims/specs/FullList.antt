@@ -1,11 +1,11 @@
 -- 01's second fact: a full list at rest has a head that waits only for votes, since 31 deliveries have followed it.
 -- The invariant: the rt of a waiting global entry, and how many stand behind it, are together at most DC + 31.
-use Prim.Native.Nat.{ℕ, zero, suc, _+_, _-_, _≤_, _<_}
-use mathlib.Core.Bool.{Bool, true, false, not, _&&_, _||_}
-use mathlib.Core.List.{List, [], _∷_, _++_, map}
+use Prim.Native.Nat.{ℕ, zero, suc, _+_, _-_, _≤_}
+use mathlib.Core.Bool.{true, false, not, _&&_}
+use mathlib.Core.List.{List, [], _∷_, map}
 use mathlib.Core.Logic.{⊎-elim}
 use mathlib.Core.Option.{none}
-use mathlib.Core.Path.{_≡_, refl, sym, ap, _∙_}
+use mathlib.Core.Path.{_≡_, refl}
 use borrow.Author.Tests.{ltb-false, le-leb, not-false}
 use native.Mathlib.Omega.{arith}
 use lib.Dec.{leb}
@@ -15,17 +15,17 @@ use Rattle.rules.specs.Sizes.{most-k, most-waiting}
 use Rattle.rules.specs.Partitions.{Ballot, none-heard, any-outstanding}
 use Rattle.rules.specs.Ledger.{Transaction, Entry, Clock, Books, State, is-local, opening, sizes-fit}
 use Rattle.rules.specs.Delivery.{ticked, entered, Fate, abort, join, fate, joined}
-use Rattle.rules.specs.Closing.{ready, books-after, close}
+use Rattle.rules.specs.Closing.{ready, close}
 use Rattle.rules.specs.Events.{Event, delivery, vote, change, read, closing, deliver-at, deliver-with, with-vote, take-vote, with-k, take-change, take-read, accepted}
-use Rattle.rules.specs.Refusals.{refusal, checks, change-checks, step}
+use Rattle.rules.specs.Refusals.{refusal, checks, change-checks}
 use Rattle.rules.specs.Logs.{last}
-use Rattle.claims.specs.Tests.{split, never, or-left, or-right}
+use Rattle.claims.specs.Tests.{never, or-left, or-right}
 use Rattle.claims.specs.Steps.{close-keeps, step-keeps, last-keeps}
 use Rattle.claims.specs.Refused.{none-applies}
 use Rattle.claims.specs.SoundParts.{sizes-facts}
 use Rattle.claims.specs.SoundKept.{length-insert}
-use Rattle.claims.specs.Fates.{Placed, fate-join-exactly}
-use Rattle.claims.specs.Heads.{AtRest, Resting, log-rests}
+use Rattle.claims.specs.Fates.{fate-join-exactly}
+use Rattle.claims.specs.Heads.{AtRest, log-rests}
 
 -- What each waiting entry leaves room for.
 abbrev Spaced : ℕ → ℕ → List Entry → Type 0

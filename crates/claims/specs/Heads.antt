@@ -1,23 +1,20 @@
 -- Closing in 01's words: when a head is ready, when it commits, and that closing leaves a list at rest.
 use Prim.Native.Nat.{ℕ, zero, suc, _+_, _≤_, _<_}
-use mathlib.Core.Bool.{Bool, true, false, not, cond, _&&_, _||_}
+use mathlib.Core.Bool.{Bool, true, false, not, _&&_}
 use mathlib.Core.List.{List, [], _∷_, _++_, map}
 use mathlib.Core.Logic.{_↔_, _⊎_, inl, inr, ⊎-elim}
-use mathlib.Core.Option.{none}
-use mathlib.Core.Path.{_≡_, refl, sym, ap, _∙_, subst}
+use mathlib.Core.Path.{_≡_, refl, ap, subst}
 use borrow.Author.Tests.{leb-true, leb-false, le-leb, not-true, not-false}
 use native.Mathlib.Omega.{arith}
 use lib.Dec.{leb}
 use Rattle.rules.specs.Lists.{any, all}
-use Rattle.rules.specs.Partitions.{names, none-heard, every-partition, other, Heard, heard-from, outstanding, any-outstanding, every-vote-yes}
+use Rattle.rules.specs.Partitions.{names, every-partition, other, Heard, heard-from, outstanding, any-outstanding, every-vote-yes}
 use Rattle.rules.specs.Ledger.{Transaction, Entry, Clock, Books, State, is-local, opening}
 use Rattle.rules.specs.Closing.{ready, commits, close, finish, books-after, Finish}
-use Rattle.rules.specs.Delivery.{ticked, fate, joined, entered}
-use Rattle.rules.specs.Events.{Event, delivery, vote, change, read, accepted, closing, deliver-with, deliver-at, take-vote, with-vote, take-change, with-k, take-read}
-use Rattle.rules.specs.Refusals.{step}
+use Rattle.rules.specs.Events.{Event, accepted, closing}
 use Rattle.rules.specs.Logs.{last}
-use Rattle.claims.specs.Tests.{split, never, none-all, and-left, and-right, and-both, or-left, or-right, or-neither, or-cases, or-first, or-second}
-use Rattle.claims.specs.Steps.{close-nil, close-ready, close-rest, step-keeps, last-keeps}
+use Rattle.claims.specs.Tests.{split, never, none-all, and-left, and-right, and-both, or-cases, or-first, or-second}
+use Rattle.claims.specs.Steps.{close-nil, close-ready, close-rest, accepted-closes, step-keeps, last-keeps}
 
 -- The numbers from i on, n of them: partitions 0 to 7 are such a list.
 abbrev from : ℕ → ℕ → List ℕ
@@ -153,13 +150,8 @@ abbrev pub Resting : State → Type 0
 Resting s = AtRest (s .clock) (s .waiting)
 
 accepted-rests : (e : Event) (s : State) → Resting s → Resting (accepted e s .next)
-unfolding accepted deliver-with deliver-at take-vote take-change take-read closing
-accepted-rests (delivery t) s h =
-    let c = ticked (s .clock) in
-    close-rests c (joined (fate c t (s .waiting) (s .books)) (entered c t none-heard) (s .waiting)) (s .books)
-accepted-rests (vote i p b) s h = close-rests (s .clock) (map (with-vote i p b) (s .waiting)) (s .books)
-accepted-rests (change k) s h = close-rests (with-k k (s .clock)) (s .waiting) (s .books)
-accepted-rests (read key st) s h = h
+unfolding closing
+accepted-rests e s h = accepted-closes (λ r. Resting (r .next)) e s (λ a c es. close-rests c es (s .books)) (λ a. h)
 
 pub log-rests : (es : List Event) (partitions own k : ℕ) → Resting (last es (opening partitions own k))
 unfolding opening

@@ -1,29 +1,20 @@
 -- The committed history of a log, from its finishes: the books keep its newest 64 and hold the rest folded into the values, so that a read
 -- gives the value of the newest version at most st, across the fold.
-use Prim.Native.Nat.{ℕ, zero, suc, _+_, _-_, _≤_, _<_, min}
-use mathlib.Core.Bool.{Bool, true, false, cond}
-use mathlib.Core.List.{List, [], _∷_, _++_, map, append-assoc, List·Memᴰ}
-use mathlib.Core.Logic.{_↔_, _⊎_, inl, inr, ⊎-elim}
-use mathlib.Core.Option.{Option, none, some}
-use mathlib.Core.Path.{_≡_, refl, sym, ap, ap₂, _∙_, subst}
-use borrow.Author.Tests.{eqb-true, eqb-false, ltb-false}
+use Prim.Native.Nat.{ℕ, zero, suc, _+_, _≤_}
+use mathlib.Core.List.{List, [], _∷_, _++_, map}
+use mathlib.Core.Path.{_≡_, refl, sym, ap, ap₂, _∙_}
 use native.Mathlib.Nat.{le-of-suc-le-suc, not-suc-le-zero}
 use native.Mathlib.Omega.{arith}
-use lib.Dec.{eqb, ltb}
 use lib.IntN.{ℤ, pos}
-use lib.ListN.{length, take, drop, getD, set, replicate, length-set, length-replicate, take-append-drop, length-drop}
-use lib.Seq.{getD-set-same, getD-set-other, take-all, drop-append-le}
-use Rattle.rules.specs.Sizes.{keys, most-kept, floor}
-use Rattle.rules.specs.Ledger.{Write, Transaction, Entry, Commit, Clock, Books, State, opening}
-use Rattle.rules.specs.Partitions.{none-heard}
-use Rattle.rules.specs.Delivery.{ticked, fate, joined, entered}
+use lib.ListN.{length, take, drop, replicate, take-append-drop}
+use Rattle.rules.specs.Sizes.{keys, most-kept}
+use Rattle.rules.specs.Ledger.{Transaction, Entry, Commit, Clock, Books, State, opening}
 use Rattle.rules.specs.Closing.{ready, commits, written, folded, kept-of, committed, Outcome, version, aborts, Finish, finish, books-after, close}
-use Rattle.rules.specs.Read.{put-at, else-value, newest-value, read-at}
-use Rattle.rules.specs.Events.{Event, delivery, vote, change, read, accepted, closing, deliver-with, deliver-at, take-vote, with-vote, take-change, with-k, take-read}
+use Rattle.rules.specs.Events.{Event, accepted, closing}
 use Rattle.rules.specs.Refusals.{refusal, step}
 use Rattle.rules.specs.Logs.{last, finishes}
 use Rattle.claims.specs.Tests.{split}
-use Rattle.claims.specs.Steps.{close-nil, close-ready, close-rest, step-accepted, step-refused, refused-or}
+use Rattle.claims.specs.Steps.{close-nil, close-ready, close-rest, accepted-closes, step-accepted, step-refused, refused-or}
 
 -- The transactions that finishes committed, the newest first, laid on an older history.
 abbrev pub laid : Outcome → Transaction → List Transaction → List Transaction
@@ -100,13 +91,9 @@ close-books c (e ∷ es) b h k =
 
 accepted-books : (e : Event) (s : State) (h : List Transaction) → BooksOf h (s .books)
     → BooksOf (history (accepted e s .finishes) h) (accepted e s .next .books)
-unfolding accepted deliver-with deliver-at take-vote take-change take-read closing history
-accepted-books (delivery t) s h k =
-    let c = ticked (s .clock) in
-    close-books c (joined (fate c t (s .waiting) (s .books)) (entered c t none-heard) (s .waiting)) (s .books) h k
-accepted-books (vote i p b) s h k = close-books (s .clock) (map (with-vote i p b) (s .waiting)) (s .books) h k
-accepted-books (change n) s h k = close-books (with-k n (s .clock)) (s .waiting) (s .books) h k
-accepted-books (read key st) s h k = k
+unfolding closing history
+accepted-books e s h k =
+    accepted-closes (λ r. BooksOf (history (r .finishes) h) (r .next .books)) e s (λ a c es. close-books c es (s .books) h k) (λ a. k)
 
 -- The history of a log: its books are those of what it committed.
 step-books : (e : Event) (s : State) (h : List Transaction) → BooksOf h (s .books) → BooksOf (history (step e s .finishes) h) (step e s .next .books)

@@ -15,6 +15,7 @@ pub mod Deliveries
 pub mod Heads
 pub mod History
 pub mod Reads
+pub mod Versions
 pub mod Counts
 pub mod FullList
 pub mod Timing

@@ -1,16 +1,16 @@
 -- What the tests on lists say of their members: some element, every element, a key that two lists share.
-use Prim.Native.Nat.{ℕ, zero, suc, _+_, _≤_, _<_}
-use mathlib.Core.Bool.{Bool, true, false, not, cond, _&&_, _||_}
-use mathlib.Core.List.{List, [], _∷_, _++_, List·Memᴰ, List·Memᴰ·head, List·Memᴰ·tail, List·Memᴰ·not-nil, List·Memᴰ·cases-cons}
-use mathlib.Core.Logic.{_↔_, _⊎_, inl, inr, ⊎-elim}
-use mathlib.Core.Option.{Option, none, some}
+use Prim.Native.Nat.{ℕ, _≤_, _<_}
+use mathlib.Core.Bool.{Bool, true, false}
+use mathlib.Core.List.{List, [], _∷_, List·Memᴰ, List·Memᴰ·head, List·Memᴰ·tail, List·Memᴰ·not-nil, List·Memᴰ·cases-cons}
+use mathlib.Core.Logic.{_↔_, ⊎-elim}
+use mathlib.Core.Option.{some}
 use mathlib.Core.Path.{_≡_, refl, sym, ap, _∙_, subst}
-use borrow.Author.Tests.{eqb-true, eqb-false, eq-eqb, ltb-true}
+use borrow.Author.Tests.{eqb-true, eq-eqb, ltb-true}
 use native.Mathlib.Omega.{arith}
 use lib.Dec.{eqb, ltb}
-use Rattle.rules.specs.Lists.{any, all, member, isSome}
+use Rattle.rules.specs.Lists.{any, all, member}
 use Rattle.rules.specs.Keys.{above, ascending, shared, meet}
-use Rattle.claims.specs.Tests.{split, never, and-left, and-right, and-both, or-left, or-right, or-neither, or-cases, or-first, or-second}
+use Rattle.claims.specs.Tests.{split, never, and-left, and-right, and-both, or-cases, or-first, or-second}
 
 module _ {A : Type 0} (f : A → Bool) where
   -- some element passes the test

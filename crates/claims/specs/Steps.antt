@@ -1,12 +1,12 @@
 -- One induction for closing and one case rule for an event and for a log: every invariant is shown by these.
 use Prim.Native.Nat.{ℕ}
-use mathlib.Core.Bool.{Bool, true, false, cond}
-use mathlib.Core.List.{List, [], _∷_, _++_}
+use mathlib.Core.Bool.{true, false}
+use mathlib.Core.List.{List, [], _∷_}
 use mathlib.Core.Option.{Option, none, some}
-use mathlib.Core.Path.{_≡_, refl, sym, ap, _∙_}
+use mathlib.Core.Path.{_≡_, refl}
 use Rattle.rules.specs.Ledger.{Entry, Clock, Books, State}
-use Rattle.rules.specs.Closing.{ready, finish, books-after, close-with, close, Closed, finish-first, Finish}
-use Rattle.rules.specs.Events.{Event, Step, Answer, refused, accepted, closing}
+use Rattle.rules.specs.Closing.{ready, finish, books-after, close-with, close, finish-first}
+use Rattle.rules.specs.Events.{Event, delivery, vote, change, read, Step, Answer, refused, accepted, closing, deliver-with, deliver-at, take-vote, take-change, take-read}
 use Rattle.rules.specs.Refusals.{refusal, unless-refused, step}
 use Rattle.rules.specs.Logs.{last}
 use Rattle.claims.specs.Tests.{split}
@@ -35,6 +35,16 @@ close-keeps c P off (e ∷ es) b h =
     split (ready c e)
     (λ q. rw (close-ready c e es b q) (close-keeps c P off es (books-after c e b) (off e es b q h)))
     (λ q. rw (close-rest c e es b q) h)
+
+-- An accepted event closes some list at some clock, on the books as they were; a read leaves all as it is.
+pub accepted-closes : (P : Step → Type 0) (e : Event) (s : State)
+    → ((a : Answer) (c : Clock) (es : List Entry) → P (closing a c es (s .books)))
+    → ((a : Answer) → P (record { answer = a; finishes = []; next = s })) → P (accepted e s)
+unfolding accepted deliver-with deliver-at take-vote take-change take-read
+accepted-closes P (delivery t) s k r = k _ _ _
+accepted-closes P (vote i p b) s k r = k _ _ _
+accepted-closes P (change n) s k r = k _ _ _
+accepted-closes P (read key st) s k r = r _
 
 -- What is refused, and what isn't.
 pub step-refused : (e : Event) (s : State) {n : ℕ} → refusal e s ≡ some n → step e s ≡ record { answer = refused n; finishes = []; next = s }

@@ -1,11 +1,11 @@
 -- Small facts on tests and on lists of tests, used by every claim. Nothing here is about the ledger.
-use Prim.Native.Nat.{ℕ, zero, suc, _+_, _≤_, _<_}
-use mathlib.Core.Bool.{Bool, true, false, not, cond, _&&_, _||_, true≢false, false≢true}
-use mathlib.Core.List.{List, [], _∷_, _++_, map}
+use Prim.Native.Nat.{ℕ, zero, suc}
+use mathlib.Core.Bool.{Bool, true, false, not, _&&_, _||_, true≢false, false≢true}
+use mathlib.Core.List.{List, [], _∷_, _++_}
 use mathlib.Core.Logic.{_↔_, _⊎_, inl, inr}
-use mathlib.Core.Path.{_≡_, refl, sym, ap, _∙_}
-use lib.ListN.{length, take, drop}
-use Rattle.rules.specs.Lists.{any, all, member, insertAt}
+use mathlib.Core.Path.{_≡_, refl, sym, _∙_}
+use lib.ListN.{take, drop}
+use Rattle.rules.specs.Lists.{any, all, insertAt}
 
 -- A case split on a test: in each arm the test's value is an equation, for `rw`.
 pub split {ℓ} : {C : Type ℓ} (b : Bool) → (b ≡ true → C) → (b ≡ false → C) → C

@@ -4,10 +4,10 @@ use Prim.Native.Nat.{ℕ, zero, suc, _+_}
 use mathlib.Core.List.{List, [], _∷_, _++_, map}
 use mathlib.Core.Option.{none, some}
 use mathlib.Core.Path.{_≡_, refl}
-use lib.IntN.{ℤ, pos}
+use lib.IntN.{pos}
 use Rattle.rules.specs.Partitions.{aye, nay}
 use Rattle.rules.specs.Closing.{version, aborts}
-use Rattle.rules.specs.Events.{Event, vote, change, read, at, refused, waits, aborted, voted, changed, value}
+use Rattle.rules.specs.Events.{Event, vote, change, refused, waits, aborted, voted, changed}
 use Rattle.rules.specs.Cases.{Case, row, computed, wanted, deliver, _puts_, _ends_, commits-up-to}
 
 -- "delivery 10 as above"

@@ -1,5 +1,5 @@
 -- A case: a log, then one event, and what must be seen of it. A table of cases is closed by computing both sides.
-use Prim.Native.Nat.{ℕ, zero, suc, _+_}
+use Prim.Native.Nat.{ℕ, zero, suc}
 use mathlib.Core.List.{List, [], _∷_, _++_, map}
 use lib.IntN.{ℤ, pos}
 use Rattle.rules.specs.Partitions.{names, with-partition, other, hear, heard-from, outstanding, any-outstanding, every-vote-yes, bad-set}

@@ -1,8 +1,8 @@
 -- 01, "What an event does": the events with their answers, where none is refused.
 use Prim.Native.Nat.{ℕ}
-use mathlib.Core.Bool.{Bool, cond}
-use mathlib.Core.List.{List, [], _∷_, map}
-use mathlib.Core.Option.{Option, none, some}
+use mathlib.Core.Bool.{cond}
+use mathlib.Core.List.{List, [], map}
+use mathlib.Core.Option.{Option}
 use lib.Dec.{eqb}
 use lib.IntN.{ℤ}
 use Rattle.rules.specs.Partitions.{Ballot, Heard, none-heard, hear}

@@ -1,11 +1,11 @@
 -- Lists of keys: ascending, within their limits, and what two of them share.
 use Prim.Native.Nat.{ℕ}
-use mathlib.Core.Bool.{Bool, true, false, not, cond, _&&_, _||_}
+use mathlib.Core.Bool.{Bool, true, not, cond, _&&_, _||_}
 use mathlib.Core.List.{List, [], _∷_}
 use mathlib.Core.Option.{Option, none, some}
 use lib.Dec.{leb, ltb}
 use lib.ListN.{length}
-use Rattle.rules.specs.Lists.{any, all, member, isSome}
+use Rattle.rules.specs.Lists.{any, member, isSome}
 use Rattle.rules.specs.Sizes.{keys, most-keys}
 
 -- "strictly ascending": each key is below the one after it.

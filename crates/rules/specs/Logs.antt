@@ -2,7 +2,7 @@
 use mathlib.Core.List.{List, [], _∷_, _++_}
 use Rattle.rules.specs.Ledger.{State}
 use Rattle.rules.specs.Closing.{Finish}
-use Rattle.rules.specs.Events.{Event, Answer, Step}
+use Rattle.rules.specs.Events.{Event, Step}
 use Rattle.rules.specs.Refusals.{step}
 
 -- What each event gives, in the log's order.

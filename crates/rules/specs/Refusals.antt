@@ -9,9 +9,9 @@ use Rattle.rules.specs.Lists.{any}
 use Rattle.rules.specs.Sizes.{most-waiting, most-dc, most-k, floor}
 use Rattle.rules.specs.Partitions.{bad-set, other, heard-from}
 use Rattle.rules.specs.Keys.{bad-key, bad-keys, too-many}
-use Rattle.rules.specs.Ledger.{Transaction, Entry, State, keys-of, opening, sizes-fit}
+use Rattle.rules.specs.Ledger.{Transaction, Entry, State, keys-of, sizes-fit}
 use Rattle.rules.specs.Soundness.{sound}
-use Rattle.rules.specs.Events.{Event, delivery, vote, change, read, Snapshot, snapshot, Answer, refused, Step, accepted}
+use Rattle.rules.specs.Events.{Event, delivery, vote, change, read, snapshot, refused, Step, accepted}
 
 -- A number, and whether its condition holds.
 pub record Check : Type 0 where

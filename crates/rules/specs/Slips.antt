@@ -1,12 +1,11 @@
 -- 01, "Slips that cost a fee": for each of them a case that the slip would answer otherwise, as one table under one claim.
-use Prim.Native.Nat.{ℕ}
-use mathlib.Core.List.{List, [], _∷_, _++_, map}
+use mathlib.Core.List.{List, [], _∷_, map}
 use mathlib.Core.Option.{none, some}
 use mathlib.Core.Path.{_≡_, refl}
-use lib.IntN.{ℤ, pos}
+use lib.IntN.{pos}
 use Rattle.rules.specs.Partitions.{aye, nay}
-use Rattle.rules.specs.Closing.{version, aborts}
-use Rattle.rules.specs.Events.{Event, vote, read, at, refused, waits, aborted, voted, value}
+use Rattle.rules.specs.Closing.{version}
+use Rattle.rules.specs.Events.{Event, vote, read, at, waits, aborted, voted, value}
 use Rattle.rules.specs.Cases.{Case, row, computed, wanted, deliver, _puts_, _ends_, commits-up-to}
 use Rattle.rules.specs.BothSides.{ten, filler}
 

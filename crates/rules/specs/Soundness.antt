@@ -1,6 +1,6 @@
 -- 01, "A state is sound when": each condition of the list, as a test that computes.
 use Prim.Native.Nat.{ℕ, _+_, min}
-use mathlib.Core.Bool.{Bool, true, false, not, cond, _&&_}
+use mathlib.Core.Bool.{Bool, true, not, _&&_}
 use mathlib.Core.List.{List, [], _∷_, map}
 use lib.Dec.{eqb, leb}
 use lib.ListN.{length}
@@ -8,7 +8,7 @@ use Rattle.rules.specs.Lists.{all, member}
 use Rattle.rules.specs.Sizes.{keys, most-waiting, most-kept, most-k, most-dc}
 use Rattle.rules.specs.Partitions.{bad-set, from-others}
 use Rattle.rules.specs.Keys.{good-set}
-use Rattle.rules.specs.Ledger.{Transaction, Entry, Commit, State, keys-of, sizes-fit}
+use Rattle.rules.specs.Ledger.{Entry, Commit, State, keys-of, sizes-fit}
 
 -- "sizes fit the table"
 unfoldable pub fits : State → Bool

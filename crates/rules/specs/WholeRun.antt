@@ -1,15 +1,14 @@
 -- 01, "A whole run": its seven records, and the lines that they must give.
-use Prim.Native.Nat.{ℕ}
 use mathlib.Core.List.{List, [], _∷_, map}
 use mathlib.Core.Option.{none, some}
 use mathlib.Core.Path.{_≡_, refl}
-use lib.IntN.{ℤ, pos, negsuc}
-use Rattle.rules.specs.Partitions.{aye, nay}
+use lib.IntN.{pos, negsuc}
+use Rattle.rules.specs.Partitions.{aye}
 use Rattle.rules.specs.Ledger.{opening}
-use Rattle.rules.specs.Closing.{version, aborts}
+use Rattle.rules.specs.Closing.{version}
 use Rattle.rules.specs.Events.{Event, vote, read, at, newest, waits, aborted, voted, value}
 use Rattle.rules.specs.Logs.{steps}
-use Rattle.rules.specs.Cases.{Seen, seen-of, computed, deliver, _puts_, _ends_}
+use Rattle.rules.specs.Cases.{seen-of, computed, deliver, _puts_, _ends_}
 
 -- O|2|0|1 opens; the other six records:
 unfoldable pub whole-run : List Event
