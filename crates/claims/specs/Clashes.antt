@@ -12,8 +12,8 @@ use Rattle.rules.specs.Lists.{any}
 use Rattle.rules.specs.Keys.{meet}
 use Rattle.rules.specs.Ledger.{Transaction, Commit, Books, keys-of, is-local}
 use Rattle.rules.specs.Delivery.{clash, clash-commit, commits-after}
-use Rattle.claims.specs.Tests.{never, and-left, and-right, and-both, or-cases, or-first, or-second}
-use Rattle.claims.specs.Members.{Common, meet-exactly}
+use Rattle.laws.specs.Tests.{never, and-left, and-right, and-both, or-cases, or-first, or-second}
+use Rattle.laws.specs.Members.{Common, meet-exactly}
 
 -- "Clash: it read a key that the commit wrote; for a global one also, it writes a key that the commit read."
 abbrev pub Clash : ℕ → Transaction → List ℕ → List ℕ → Type 0

@@ -13,7 +13,7 @@ use Rattle.rules.specs.Closing.{ready, commits, committed, Outcome, version, ab
 use Rattle.rules.specs.Events.{Event, delivery, vote, change, read, Answer, refused, waits, aborted, voted, changed, value, Step, closing, delivered, deliver-at, deliver-with, with-vote, take-vote, with-k, take-change, take-read, accepted}
 use Rattle.rules.specs.Refusals.{refusal, step}
 use Rattle.rules.specs.Logs.{steps, last, finishes}
-use Rattle.claims.specs.Tests.{split}
+use Rattle.laws.specs.Tests.{split}
 use Rattle.claims.specs.Steps.{close-nil, close-ready, close-rest, step-accepted, step-refused, refused-or}
 use Rattle.claims.specs.SoundKept.{length-insert}
 

@@ -9,7 +9,7 @@ use Rattle.rules.specs.Ledger.{Transaction, State, is-local}
 use Rattle.rules.specs.Delivery.{ticked, Fate, abort, join, fate, vote-to-send}
 use Rattle.rules.specs.Events.{delivery, Answer, waits, aborted, closing, delivered, deliver-at, deliver-with, accepted}
 use Rattle.rules.specs.Refusals.{refusal, step}
-use Rattle.claims.specs.Tests.{split}
+use Rattle.laws.specs.Tests.{split}
 use Rattle.claims.specs.Steps.{step-accepted}
 use Rattle.claims.specs.Clashes.{ClashingCommit}
 use Rattle.claims.specs.Fates.{NoPlace, Entangled, Placed, fate-one-exactly, fate-two-exactly, fate-three-exactly, fate-join-exactly}

@@ -12,8 +12,8 @@ use Rattle.rules.specs.Ledger.{Transaction, Entry, Clock, Books, keys-of, is-lo
 use Rattle.rules.specs.Place.{place}
 use Rattle.rules.specs.Delivery.{blocks, passes, clash-commit, clash-entry, commits-after, Fate, abort, join, placed, fate}
 use Rattle.rules.specs.Events.{waits}
-use Rattle.claims.specs.Tests.{split, never}
-use Rattle.claims.specs.Members.{any-found, any-member}
+use Rattle.laws.specs.Tests.{split, never}
+use Rattle.laws.specs.Members.{any-found, any-member}
 use Rattle.claims.specs.Places.{Least, place-least, LawfulPlace, lawful-exactly}
 use Rattle.claims.specs.Clashes.{Clash, clash-exactly, ClashingCommit, commits-exactly}
 

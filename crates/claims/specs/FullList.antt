@@ -19,7 +19,7 @@ use Rattle.rules.specs.Closing.{ready, close}
 use Rattle.rules.specs.Events.{Event, delivery, vote, change, read, closing, deliver-at, deliver-with, with-vote, take-vote, with-k, take-change, take-read, accepted}
 use Rattle.rules.specs.Refusals.{refusal, checks, change-checks}
 use Rattle.rules.specs.Logs.{last}
-use Rattle.claims.specs.Tests.{never, or-left, or-right}
+use Rattle.laws.specs.Tests.{never, or-left, or-right}
 use Rattle.claims.specs.Steps.{close-keeps, step-keeps, last-keeps}
 use Rattle.claims.specs.Refused.{none-applies}
 use Rattle.claims.specs.SoundParts.{sizes-facts}

@@ -13,7 +13,7 @@ use Rattle.rules.specs.Ledger.{Transaction, Entry, Clock, Books, State, is-loca
 use Rattle.rules.specs.Closing.{ready, commits, close, finish, books-after, Finish}
 use Rattle.rules.specs.Events.{Event, accepted, closing}
 use Rattle.rules.specs.Logs.{last}
-use Rattle.claims.specs.Tests.{split, never, none-all, and-left, and-right, and-both, or-cases, or-first, or-second}
+use Rattle.laws.specs.Tests.{split, never, none-all, and-left, and-right, and-both, or-cases, or-first, or-second}
 use Rattle.claims.specs.Steps.{close-nil, close-ready, close-rest, accepted-closes, step-keeps, last-keeps}
 
 -- The numbers from i on, n of them: partitions 0 to 7 are such a list.

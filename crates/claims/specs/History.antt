@@ -13,7 +13,7 @@ use Rattle.rules.specs.Closing.{ready, commits, written, folded, kept-of, commi
 use Rattle.rules.specs.Events.{Event, accepted, closing}
 use Rattle.rules.specs.Refusals.{refusal, step}
 use Rattle.rules.specs.Logs.{last, finishes}
-use Rattle.claims.specs.Tests.{split}
+use Rattle.laws.specs.Tests.{split}
 use Rattle.claims.specs.Steps.{close-nil, close-ready, close-rest, accepted-closes, step-accepted, step-refused, refused-or}
 
 -- The transactions that finishes committed, the newest first, laid on an older history.

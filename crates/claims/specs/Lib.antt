@@ -1,7 +1,5 @@
 -- Theorems about the rules alone, each under its document's name.
-pub mod Tests
 pub mod Steps
-pub mod Members
 pub mod SameStates
 pub mod Refused
 pub mod Bits

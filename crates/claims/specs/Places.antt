@@ -14,8 +14,8 @@ use Rattle.rules.specs.Keys.{meet}
 use Rattle.rules.specs.Ledger.{Transaction, Entry, Clock, keys-of, is-local}
 use Rattle.rules.specs.Place.{place}
 use Rattle.rules.specs.Delivery.{blocks, passes}
-use Rattle.claims.specs.Tests.{split, never, and-left, and-right, and-both, or-left, or-right, or-neither}
-use Rattle.claims.specs.Members.{any-none, any-nowhere, all-member, all-everywhere, Apart, apart-exactly}
+use Rattle.laws.specs.Tests.{split, never, and-left, and-right, and-both, or-left, or-right, or-neither}
+use Rattle.laws.specs.Members.{any-none, any-nowhere, all-member, all-everywhere, Apart, apart-exactly}
 
 -- A place is lawful when no entry before it blocks, and every entry from it on may be passed.
 pub record Lawful {A : Type 0} (block pass : A → Bool) (es : List A) (i : ℕ) : Type 0 where

@@ -17,7 +17,7 @@ use Rattle.rules.specs.Read.{put-at, else-value, newest-value, read-at}
 use Rattle.rules.specs.Events.{Event, Step, read, Snapshot, snapshot, value, accepted, take-read}
 use Rattle.rules.specs.Refusals.{refusal, checks, read-checks, step}
 use Rattle.rules.specs.Logs.{last}
-use Rattle.claims.specs.Tests.{split}
+use Rattle.laws.specs.Tests.{split}
 use Rattle.claims.specs.Steps.{step-accepted}
 use Rattle.claims.specs.Refused.{none-applies}
 use Rattle.claims.specs.SoundKept.{length-written, length-folded}

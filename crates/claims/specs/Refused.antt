@@ -16,7 +16,7 @@ use Rattle.rules.specs.Delivery.{Fate, abort, join}
 use Rattle.rules.specs.Soundness.{sound}
 use Rattle.rules.specs.Events.{Event, delivery, vote, change, read, refused, Step, accepted, closing, delivered, deliver-at, deliver-with, take-vote, take-change, take-read}
 use Rattle.rules.specs.Refusals.{Check, first-of, checks, refusal, unless-refused, step, opening-refusal, too-little-room, desk-checks, desk}
-use Rattle.claims.specs.Tests.{split, or-left, or-right, or-neither}
+use Rattle.laws.specs.Tests.{split, or-left, or-right, or-neither}
 use Rattle.claims.specs.Steps.{step-refused}
 
 abbrev pub applies : Check → Bool

@@ -16,7 +16,7 @@ use Rattle.rules.specs.Closing.{commits, written, folded, kept-of, committed, b
 use Rattle.rules.specs.Keys.{good-set}
 use Rattle.rules.specs.Soundness.{good-commit, different, identities, good-entry}
 use Rattle.rules.specs.Refusals.{is-for}
-use Rattle.claims.specs.Tests.{split, and-left, and-right, and-both, or-left, or-right, or-neither, all-take, all-weaken, all-insert}
+use Rattle.laws.specs.Tests.{split, and-left, and-right, and-both, or-left, or-right, or-neither, all-take, all-weaken, all-insert}
 use Rattle.claims.specs.Steps.{close-keeps}
 use Rattle.claims.specs.SoundParts.{Sound, GoodEntry, entry-facts, entry-again}
 

@@ -12,7 +12,7 @@ use Rattle.rules.specs.Partitions.{bad-set, Heard, from-others}
 use Rattle.rules.specs.Keys.{good-set}
 use Rattle.rules.specs.Ledger.{Entry, Clock, Books, State, keys-of, sizes-fit}
 use Rattle.rules.specs.Soundness.{fits, kept-count, counted, good-commit, different, identities, good-entry, sound}
-use Rattle.claims.specs.Tests.{and-left}
+use Rattle.laws.specs.Tests.{and-left}
 
 -- Tests joined by `&&`, which groups to the left, and each of them as a fact.
 abbrev pub joint : Bool → List Bool → Bool

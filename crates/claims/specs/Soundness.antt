@@ -20,7 +20,7 @@ use Rattle.rules.specs.Events.{Event, delivery, vote, change, read, closing, de
 use Rattle.rules.specs.Soundness.{identities, different, good-entry, sound}
 use Rattle.rules.specs.Refusals.{is-for, waits-for, delivery-checks, vote-checks, change-checks, checks, refusal, step}
 use Rattle.rules.specs.Logs.{last}
-use Rattle.claims.specs.Tests.{split, and-left, and-right, and-both, or-left, or-right, or-second, all-weaken}
+use Rattle.laws.specs.Tests.{split, and-left, and-right, and-both, or-left, or-right, or-second, all-weaken}
 use Rattle.claims.specs.Steps.{step-keeps, last-keeps}
 use Rattle.claims.specs.Bits.{names-with, names-within, with-below}
 use Rattle.claims.specs.Refused.{NoneApplies, none-applies}

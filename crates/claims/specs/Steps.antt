@@ -9,7 +9,7 @@ use Rattle.rules.specs.Closing.{ready, finish, books-after, close-with, close, 
 use Rattle.rules.specs.Events.{Event, delivery, vote, change, read, Step, Answer, refused, accepted, closing, deliver-with, deliver-at, take-vote, take-change, take-read}
 use Rattle.rules.specs.Refusals.{refusal, unless-refused, step}
 use Rattle.rules.specs.Logs.{last}
-use Rattle.claims.specs.Tests.{split}
+use Rattle.laws.specs.Tests.{split}
 
 -- Closing an empty list; a list whose head is ready; one whose head is not.
 pub close-nil : (c : Clock) (b : Books) → close c [] b ≡ record { finishes = []; waiting = []; books = b }

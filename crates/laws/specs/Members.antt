@@ -10,7 +10,7 @@ use native.Mathlib.Omega.{arith}
 use lib.Dec.{eqb, ltb}
 use Rattle.rules.specs.Lists.{any, all, member}
 use Rattle.rules.specs.Keys.{above, ascending, shared, meet}
-use Rattle.claims.specs.Tests.{split, never, and-left, and-right, and-both, or-cases, or-first, or-second}
+use Rattle.laws.specs.Tests.{split, never, and-left, and-right, and-both, or-cases, or-first, or-second}
 
 module _ {A : Type 0} (f : A → Bool) where
   -- some element passes the test
