@@ -2,7 +2,6 @@
 pub mod Steps
 pub mod SameStates
 pub mod Refused
-pub mod Bits
 pub mod SoundParts
 pub mod SoundKept
 pub mod Soundness

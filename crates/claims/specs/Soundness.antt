@@ -22,7 +22,7 @@ use Rattle.rules.specs.Refusals.{is-for, waits-for, delivery-checks, vote-check
 use Rattle.rules.specs.Logs.{last}
 use Rattle.laws.specs.Tests.{split, and-left, and-right, and-both, or-left, or-right, or-second, all-weaken}
 use Rattle.claims.specs.Steps.{step-keeps, last-keeps}
-use Rattle.claims.specs.Bits.{names-with, names-within, with-below}
+use Rattle.laws.specs.Bits.{names-with, names-within, with-below}
 use Rattle.claims.specs.Refused.{NoneApplies, none-applies}
 use Rattle.claims.specs.SoundParts.{Sizes, sizes-facts, Sound, sound-facts, sound-test, GoodEntry, entry-facts, entry-test, entry-again}
 use Rattle.claims.specs.SoundKept.{Room, tick-sound, join-sound, close-sound}

@@ -1,3 +1,4 @@
--- Generic laws, written once: of tests, of the members of lists. Nothing here is about the ledger.
+-- Generic laws, written once: of tests, of the members of lists, of sets as bits. Nothing here is about the ledger.
 pub mod Tests
 pub mod Members
+pub mod Bits
