@@ -15,7 +15,7 @@ use Rattle.rules.specs.Refusals.{refusal, step}
 use Rattle.rules.specs.Logs.{steps, last, finishes}
 use Rattle.laws.specs.Tests.{split}
 use Rattle.claims.specs.Steps.{close-nil, close-ready, close-rest, step-accepted, step-refused, refused-or}
-use Rattle.claims.specs.SoundKept.{length-insert}
+use Rattle.laws.specs.Inserts.{length-insert}
 
 -- How many answers of a log say that a delivery waits, and how many that it was aborted: 1 or 0 for each answer.
 abbrev pub joins-told : Answer → ℕ

@@ -23,7 +23,7 @@ use Rattle.laws.specs.Tests.{never, or-left, or-right}
 use Rattle.claims.specs.Steps.{close-keeps, step-keeps, last-keeps}
 use Rattle.claims.specs.Refused.{none-applies}
 use Rattle.claims.specs.SoundParts.{sizes-facts}
-use Rattle.claims.specs.SoundKept.{length-insert}
+use Rattle.laws.specs.Inserts.{length-insert}
 use Rattle.claims.specs.Fates.{fate-join-exactly}
 use Rattle.claims.specs.Heads.{AtRest, log-rests}
 

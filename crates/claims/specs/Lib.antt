@@ -16,3 +16,12 @@ pub mod Versions
 pub mod Counts
 pub mod FullList
 pub mod Timing
+pub mod Gather
+pub mod Filled
+pub mod Eager
+pub mod Follow
+pub mod Fair
+pub mod Known
+pub mod Demand3
+pub mod InTime
+pub mod RealLogs

@@ -1,7 +1,7 @@
 -- What soundness asks of lists is kept when an element is put in at a place and when the head is taken off; so joining and closing keep a state sound.
 use Prim.Native.Nat.{ℕ, zero, suc, _+_, _<_}
-use mathlib.Core.Bool.{Bool, true, false, not}
-use mathlib.Core.List.{List, [], _∷_, map}
+use mathlib.Core.Bool.{true, false, not}
+use mathlib.Core.List.{List, [], _∷_}
 use mathlib.Core.Path.{_≡_, refl, sym, ap, _∙_}
 use native.Mathlib.Omega.{arith}
 use lib.Dec.{eqb}
@@ -16,26 +16,10 @@ use Rattle.rules.specs.Closing.{commits, written, folded, kept-of, committed, b
 use Rattle.rules.specs.Keys.{good-set}
 use Rattle.rules.specs.Soundness.{good-commit, different, identities, good-entry}
 use Rattle.rules.specs.Refusals.{is-for}
+use Rattle.laws.specs.Inserts.{length-insert, none-insert, map-insert}
 use Rattle.laws.specs.Tests.{split, and-left, and-right, and-both, or-left, or-right, or-neither, all-take, all-weaken, all-insert}
 use Rattle.claims.specs.Steps.{close-keeps}
 use Rattle.claims.specs.SoundParts.{Sound, GoodEntry, entry-facts, entry-again}
-
-module _ {A : Type 0} where
-  pub length-insert : (i : ℕ) (x : A) (xs : List A) → length (insertAt i x xs) ≡ suc (length xs)
-  length-insert zero x xs = refl
-  length-insert (suc i) x [] = refl
-  length-insert (suc i) x (y ∷ ys) = ap suc (length-insert i x ys)
-
-  pub none-insert : (f : A → Bool) (i : ℕ) (x : A) (xs : List A) → f x ≡ false → any f xs ≡ false → any f (insertAt i x xs) ≡ false
-  none-insert f zero x xs p h = or-neither (f x) (any f xs) p h
-  none-insert f (suc i) x [] p h = or-neither (f x) false p refl
-  none-insert f (suc i) x (y ∷ ys) p h =
-      or-neither (f y) (any f (insertAt i x ys)) (or-left (f y) (any f ys) h) (none-insert f i x ys p (or-right (f y) (any f ys) h))
-
-pub map-insert : {A B : Type 0} (f : A → B) (i : ℕ) (x : A) (xs : List A) → map f (insertAt i x xs) ≡ insertAt i (f x) (map f xs)
-map-insert f zero x xs = refl
-map-insert f (suc i) x [] = refl
-map-insert f (suc i) x (y ∷ ys) = ap (λ l. f y ∷ l) (map-insert f i x ys)
 
 unlike : (a b : ℕ) → eqb a b ≡ false → eqb b a ≡ false
 unlike a b h = ne-eqb b a (λ q. eqb-false a b h (sym q))
