@@ -4,4 +4,5 @@ pub mod Members
 pub mod Each
 pub mod Inserts
 pub mod Bits
-pub mod Tables
+pub mod Cuts
+pub mod Tabs

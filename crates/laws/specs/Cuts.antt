@@ -1,9 +1,8 @@
--- Parts of a list and lists laid into one: `cut` is what a part of a slice is, `put` is what a run of stores leaves, `tab` lists a function's first
--- values. Every row of a lent table is a cut, every change of it a put.
+-- Parts of a list and lists laid into one: `cut` is what a part of a slice is, `put` is what a run of stores leaves. Every row of a lent table is a cut,
+-- every change of it a put.
 use Prim.Native.Nat.{ℕ, zero, suc, _+_, _-_, _≤_, _<_}
 use mathlib.Core.List.{List, [], _∷_, _++_, append-assoc}
 use mathlib.Core.Path.{_≡_, refl, sym, ap, ap₂, _∙_}
-use native.Mathlib.Nat.{le-of-suc-le-suc, not-suc-le-zero}
 use native.Mathlib.Omega.{arith}
 use lib.ListN.{length, take, drop, getD, set, length-append, length-drop, take-append-drop}
 use lib.Seq.{length-take-le, take-append-le, drop-append-le, take-at, drop-append-add, take-take, drop-drop, getD-take, getD-drop, set-split, take-all, take-append-add}
@@ -16,27 +15,6 @@ module _ {A : Type 0} where
   -- l with the list s at a place
   unfoldable pub put : List A → ℕ → List A → List A
   put l at s = take at l ++ (s ++ drop (at + length s) l)
-
-  -- f 0, f 1, .., f (n - 1)
-  unfoldable pub tab : ℕ → (ℕ → A) → List A
-  tab zero f = []
-  tab (suc n) f = f 0 ∷ tab n (λ i. f (suc i))
-
-  pub length-tab : (n : ℕ) (f : ℕ → A) → length (tab n f) ≡ n
-  unfolding tab
-  length-tab zero f = refl
-  length-tab (suc n) f = ap suc (length-tab n (λ i. f (suc i)))
-
-  pub tab-same : (n : ℕ) (f g : ℕ → A) → ((i : ℕ) → i < n → f i ≡ g i) → tab n f ≡ tab n g
-  unfolding tab
-  tab-same zero f g k = refl
-  tab-same (suc n) f g k = ap₂ (λ (x : A) (l : List A). x ∷ l) (k 0 (omega arith)) (tab-same n (λ i. f (suc i)) (λ i. g (suc i)) (λ i h. k (suc i) (omega arith)))
-
-  pub getD-tab : (n : ℕ) (f : ℕ → A) (i : ℕ) (d : A) → i < n → getD (tab n f) i d ≡ f i
-  unfolding tab
-  getD-tab zero f i d h = absurd (not-suc-le-zero h)
-  getD-tab (suc n) f zero d h = refl
-  getD-tab (suc n) f (suc i) d h = getD-tab n (λ j. f (suc j)) i d (le-of-suc-le-suc h)
 
   pub length-cut : (o n : ℕ) (l : List A) → o + n ≤ length l → length (cut o n l) ≡ n
   unfolding cut
