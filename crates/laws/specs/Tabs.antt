@@ -1,5 +1,5 @@
 -- The list of a function's first values, and what taking, dropping, mapping, testing and inserting make of it.
-use Prim.Native.Nat.{ℕ, zero, suc, _+_, _-_, _≤_, _<_}
+use Prim.Native.Nat.{ℕ, zero, suc, _+_, _-_, _≤_, _<_, min}
 use mathlib.Core.List.{List, [], _∷_, _++_, map}
 use mathlib.Core.Path.{_≡_, refl, ap, ap₂, _∙_}
 use native.Mathlib.Nat.{le-of-suc-le-suc, not-suc-le-zero}
@@ -34,7 +34,11 @@ module _ {A : Type 0} where
   getD-tab (suc n) f zero d h = refl
   getD-tab (suc n) f (suc i) d h = getD-tab n (λ j. f (suc j)) i d (le-of-suc-le-suc h)
 
-  -- one value more, at the end
+  -- one value more, in front; at the end
+  pub tab-cons : (n : ℕ) (f : ℕ → A) → tab (suc n) f ≡ f 0 ∷ tab n (λ i. f (suc i))
+  unfolding tab
+  tab-cons n f = refl
+
   pub tab-suc : (n : ℕ) (f : ℕ → A) → tab (suc n) f ≡ tab n f ++ f n ∷ []
   unfolding tab
   tab-suc zero f = refl
@@ -46,8 +50,16 @@ module _ {A : Type 0} where
   take-tab (suc m) zero f h = absurd (not-suc-le-zero h)
   take-tab (suc m) (suc n) f h = ap (λ (l : List A). f 0 ∷ l) (take-tab m n (λ i. f (suc i)) (le-of-suc-le-suc h))
 
-  tab-as : (n m : ℕ) (f g : ℕ → A) → n ≡ m → ((i : ℕ) → f i ≡ g i) → tab n f ≡ tab m g
+  pub tab-as : (n m : ℕ) (f g : ℕ → A) → n ≡ m → ((i : ℕ) → f i ≡ g i) → tab n f ≡ tab m g
   tab-as n m f g e k = tab-same n f g (λ i h. k i) ∙ ap (λ (n : ℕ). tab n g) e
+
+  pub take-tab-min : (m n : ℕ) (f : ℕ → A) → take m (tab n f) ≡ tab (min m n) f
+  unfolding tab
+  take-tab-min zero n f = tab-as 0 (min 0 n) f f (omega arith) (λ i. refl)
+  take-tab-min (suc m) zero f = tab-as 0 (min (suc m) 0) f f (omega arith) (λ i. refl)
+  take-tab-min (suc m) (suc n) f =
+      ap (λ (l : List A). f 0 ∷ l) (take-tab-min m n (λ i. f (suc i)))
+      ∙ tab-as (suc (min m n)) (min (suc m) (suc n)) f f (omega arith) (λ i. refl)
 
   pub drop-tab : (m n : ℕ) (f : ℕ → A) → drop m (tab n f) ≡ tab (n - m) (λ i. f (m + i))
   unfolding tab
@@ -70,6 +82,11 @@ module _ {A : Type 0} where
       (λ j h k. behind (suc j) (omega arith) (omega arith)))
 
   -- a list is the tab of its elements, and so is a cut of it
+  pub tab-list : (l : List A) (d : A) → tab (length l) (λ j. getD l j d) ≡ l
+  unfolding tab
+  tab-list [] d = refl
+  tab-list (x ∷ l) d = ap (λ (xs : List A). x ∷ xs) (tab-list l d)
+
   pub tab-cut : (o n : ℕ) (l : List A) (d : A) → o + n ≤ length l → tab n (λ j. getD l (o + j) d) ≡ cut o n l
   unfolding tab cut
   tab-cut o zero l d h = refl

@@ -1,2 +1,8 @@
 -- The two lent tables and the finish list: where each thing stands, and what state the tables hold.
 pub mod Layout
+pub mod Rows
+pub mod View
+pub mod NewRow
+pub mod Joined
+pub mod TakenOff
+pub mod Keeping
