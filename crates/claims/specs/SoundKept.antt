@@ -157,7 +157,7 @@ module _ (c : Clock) (e : Entry) (es : List Entry) (b : Books) (h : Sound c (e �
         entries-good = rest .entries-good;
       }
 
-  off-sound : Sound c es (books-after c e b)
+  pub off-sound : Sound c es (books-after c e b)
   unfolding books-after
   off-sound = split (commits c e) (λ q. rw q commit-off-sound) (λ q. rw q abort-off-sound)
 

@@ -19,7 +19,7 @@ use Rattle.laws.specs.Cuts.{cut, put, length-cut, length-put, cut-put-below, cu
 use Rattle.laws.specs.Tabs.{tab, tab-cons, tab-same, take-tab-min, drop-tab}
 use Rattle.tables.specs.Layout.{book-words, sums-words, waiting-row, waiting-amounts, kept-row, kept-amounts}
 use Rattle.tables.specs.Rows.{row-transaction, row-entry, row-commit, row-writes}
-use Rattle.tables.specs.View.{waiting-words, kept-words, entry-at, commit-at, kept-view, values-view, books-view}
+use Rattle.tables.specs.View.{waiting-words, kept-words, entry-at, commit-at, waiting-view, kept-view, values-view, books-view}
 
 -- The head's row and amounts at the kept row of a version.
 unfoldable pub kept-book : List ℕ → ℕ → List ℕ
@@ -190,3 +190,14 @@ module _ (book : List ℕ) (sums : List ℤ) (sc : ℕ) (long : book-words ≤ l
       ≡ committed (entry-at book sums 0 .transaction) (books-view sc book sums)
   unfolding books-view committed
   committed-books = λ i. record { sc = sc + 1; kept = committed-kept i; values = committed-values i }
+
+  -- the waiting rows see nothing of it
+  pub committed-entry : (i : ℕ) → i < 32 → entry-at (committed-book book sc) (committed-sums book sums sc) i ≡ entry-at book sums i
+  unfolding entry-at waiting-words
+  committed-entry i low =
+      ap₂ row-entry (apart-words (waiting-row i) (inl (omega arith))) (apart-amounts (waiting-amounts i) (omega arith) (inl (omega arith)))
+
+  pub committed-waiting : (n : ℕ) → n ≤ 32 → waiting-view n (committed-book book sc) (committed-sums book sums sc) ≡ waiting-view n book sums
+  unfolding waiting-view
+  committed-waiting n few =
+      tab-same n (entry-at (committed-book book sc) (committed-sums book sums sc)) (entry-at book sums) (λ i low. committed-entry i (omega arith))

@@ -6,3 +6,4 @@ pub mod NewRow
 pub mod Joined
 pub mod TakenOff
 pub mod Keeping
+pub mod Closed

@@ -1,16 +1,17 @@
 -- Taking the head off: the rows behind it move down by one. The waiting list is then the list without its head.
-use Prim.Native.Nat.{ℕ, zero, suc, _+_, _*_, _-_, _≤_, _<_}
+use Prim.Native.Nat.{ℕ, zero, suc, _+_, _*_, _-_, _≤_, _<_, min}
 use mathlib.Core.List.{List, [], _∷_}
 use mathlib.Core.Path.{_≡_, refl, sym, ap, ap₂, _∙_}
 use native.Mathlib.Omega.{arith}
 use lib.IntN.{ℤ}
 use lib.ListN.{length}
+use Rattle.rules.specs.Sizes.{keys, most-kept}
 use Rattle.rules.specs.Ledger.{Entry}
 use Rattle.laws.specs.Cuts.{cut, put, length-cut, length-put, cut-put-below, cut-put-above}
 use Rattle.laws.specs.Tabs.{tab, tab-same}
-use Rattle.tables.specs.Layout.{book-words, sums-words, waiting-row, waiting-amounts}
-use Rattle.tables.specs.Rows.{row-entry}
-use Rattle.tables.specs.View.{waiting-words, entry-at, waiting-view}
+use Rattle.tables.specs.Layout.{book-words, sums-words, waiting-row, waiting-amounts, kept-row, kept-amounts}
+use Rattle.tables.specs.Rows.{row-entry, row-commit}
+use Rattle.tables.specs.View.{waiting-words, kept-words, entry-at, commit-at, waiting-view, kept-view, values-view, books-view}
 use Rattle.tables.specs.Joined.{cut-moved}
 
 -- The tables without the head, with n left behind it.
@@ -67,3 +68,18 @@ module _ (book : List ℕ) (sums : List ℤ) (n : ℕ) (long : book-words ≤ le
   off-waiting =
       ap (λ (l : List Entry). entry-at book sums 0 ∷ l)
       (tab-same n (λ j. entry-at book sums (suc j)) (entry-at (off-book book n) (off-sums sums n)) (λ j low. sym (entry-off j low)))
+
+  -- the books see nothing of it
+  off-commit : (v : ℕ) → commit-at (off-book book n) (off-sums sums n) v ≡ commit-at book sums v
+  unfolding commit-at kept-words
+  off-commit v = ap₂ row-commit (off-behind (kept-row v) 24 (omega arith)) (off-sums-behind (kept-amounts v) 8 (omega arith))
+
+  pub off-books : (sc : ℕ) → books-view sc (off-book book n) (off-sums sums n) ≡ books-view sc book sums
+  unfolding books-view kept-view values-view
+  off-books sc =
+      λ i. record {
+        sc = sc;
+        kept = tab-same (min sc most-kept) (λ j. commit-at (off-book book n) (off-sums sums n) (sc - j)) (λ j. commit-at book sums (sc - j))
+            (λ j low. off-commit (sc - j)) i;
+        values = off-values 0 keys (omega arith) i;
+      }

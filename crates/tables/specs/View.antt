@@ -1,12 +1,13 @@
 -- The state that the two tables hold.
 use Prim.Native.Nat.{ℕ, _-_, min}
-use mathlib.Core.List.{List}
+use mathlib.Core.List.{List, []}
+use mathlib.Core.Path.{_≡_, refl}
 use lib.IntN.{ℤ}
-use lib.ListN.{getD}
+use lib.ListN.{length, getD}
 use Rattle.rules.specs.Sizes.{keys, most-kept}
 use Rattle.rules.specs.Ledger.{Entry, Commit, Clock, Books, State}
 use Rattle.laws.specs.Cuts.{cut}
-use Rattle.laws.specs.Tabs.{tab}
+use Rattle.laws.specs.Tabs.{tab, length-tab}
 use Rattle.tables.specs.Layout.{waiting-row, waiting-amounts, kept-row, kept-amounts, partitions-at, own-at, sc-at, dc-at, k-at, waiting-at}
 use Rattle.tables.specs.Rows.{row-entry, row-commit}
 
@@ -26,6 +27,14 @@ commit-at book sums v = row-commit (kept-words book v) (cut (kept-amounts v) 8 s
 -- The waiting list, of so many; the kept commits at SC, the newest first; the values at the floor.
 unfoldable pub waiting-view : ℕ → List ℕ → List ℤ → List Entry
 waiting-view n book sums = tab n (entry-at book sums)
+
+pub waiting-none : (book : List ℕ) (sums : List ℤ) → waiting-view 0 book sums ≡ []
+unfolding waiting-view tab
+waiting-none book sums = refl
+
+pub length-waiting : (n : ℕ) (book : List ℕ) (sums : List ℤ) → length (waiting-view n book sums) ≡ n
+unfolding waiting-view
+length-waiting n book sums = length-tab n (entry-at book sums)
 
 unfoldable pub kept-view : ℕ → List ℕ → List ℤ → List Commit
 kept-view sc book sums = tab (min sc most-kept) (λ j. commit-at book sums (sc - j))
