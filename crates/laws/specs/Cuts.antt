@@ -4,8 +4,8 @@ use Prim.Native.Nat.{ℕ, zero, suc, _+_, _-_, _≤_, _<_}
 use mathlib.Core.List.{List, [], _∷_, _++_, append-assoc}
 use mathlib.Core.Path.{_≡_, refl, sym, ap, ap₂, _∙_}
 use native.Mathlib.Omega.{arith}
-use lib.ListN.{length, take, drop, getD, set, length-append, length-drop, take-append-drop}
-use lib.Seq.{length-take-le, take-append-le, drop-append-le, take-at, drop-append-add, take-take, drop-drop, getD-take, getD-drop, set-split, take-all, take-append-add}
+use lib.ListN.{length, take, drop, getD, set, length-append, length-drop, take-append-drop, List·getD-append}
+use lib.Seq.{length-take-le, take-append-le, drop-append-le, take-at, drop-append-add, take-take, drop-drop, getD-take, getD-drop, set-split, take-all, take-append-add, take-suc, drop-cons, getD-append-add, set-append-left, take-set-lt, take-suc-set}
 
 module _ {A : Type 0} where
   -- the n elements from o on: what `&l[o..o + n]` is
@@ -116,3 +116,58 @@ module _ {A : Type 0} where
       ap₂ (λ (front rest : List A). front ++ (t ++ rest)) (take-put l at s next e fits) over
       ∙ (append-assoc (take at l) s (t ++ drop (at + length (s ++ t)) l)
       ∙ ap (λ (r : List A). take at l ++ r) (sym (append-assoc s t (drop (at + length (s ++ t)) l))))
+
+  -- one element more behind a cut; in front of it
+  pub cut-snoc : (o n : ℕ) (l : List A) (d : A) → o + n < length l → cut o (suc n) l ≡ cut o n l ++ getD l (o + n) d ∷ []
+  unfolding cut
+  cut-snoc o n l d h =
+      take-suc (drop o l) n d (rw (length-drop o l) (omega arith)) ∙ ap (λ (x : A). take n (drop o l) ++ x ∷ []) (getD-drop o l n d)
+
+  pub cut-cons : (o n : ℕ) (l : List A) (d : A) → o < length l → cut o (suc n) l ≡ getD l o d ∷ cut (suc o) n l
+  unfolding cut
+  cut-cons o n l d h = ap (take (suc n)) (drop-cons l o d h)
+
+  pub cut-nothing : (o : ℕ) (l : List A) → cut o 0 l ≡ []
+  unfolding cut
+  cut-nothing o l = refl
+
+  pub cut-whole : (s : List A) (n : ℕ) → n ≡ length s → cut 0 n s ≡ s
+  cut-whole s n e = cut-all n s (sym e)
+
+  -- an element below what was laid in; above it; of it
+  pub getD-put-below : (l : List A) (at : ℕ) (s : List A) (i : ℕ) (d : A) → i < at → at ≤ length l → getD (put l at s) i d ≡ getD l i d
+  unfolding put
+  getD-put-below l at s i d h fits =
+      List·getD-append (take at l) (s ++ drop (at + length s) l) d i (rw (length-take-le at l fits) h) ∙ getD-take at l i d h
+
+  pub getD-put-above : (l : List A) (at : ℕ) (s : List A) (i : ℕ) (d : A) → at + length s ≤ i → at + length s ≤ length l
+      → getD (put l at s) i d ≡ getD l i d
+  getD-put-above l at s i d h fits =
+      let e : i + 0 ≡ i = omega arith in
+      let there : (k : List A) → getD k i d ≡ getD (drop i k) 0 d = λ k. ap (λ (m : ℕ). getD k m d) (sym e) ∙ sym (getD-drop i k 0 d) in
+      there (put l at s) ∙ (ap (λ (k : List A). getD k 0 d) (drop-put i l at s h fits) ∙ sym (there l))
+
+  pub getD-put-within : (l : List A) (at : ℕ) (s : List A) (i : ℕ) (d : A) → i < length s → at ≤ length l → getD (put l at s) (at + i) d ≡ getD s i d
+  unfolding put
+  getD-put-within l at s i d h fits =
+      let rest = drop (at + length s) l in
+      let place : at + i ≡ length (take at l) + i = ap (λ (m : ℕ). m + i) (sym (length-take-le at l fits)) in
+      ap (λ (m : ℕ). getD (take at l ++ (s ++ rest)) m d) place
+      ∙ (getD-append-add (take at l) (s ++ rest) i d ∙ List·getD-append s rest d i h)
+
+  -- one store more behind what was laid in; in front of it
+  pub set-put-behind : (l : List A) (at : ℕ) (s : List A) (i : ℕ) (x : A) → i ≡ at + length s → i < length l → set (put l at s) i x ≡ put l at (s ++ x ∷ [])
+  set-put-behind l at s i x e h =
+      set-put (put l at s) i x (rw (length-put l at s (omega arith)) h) ∙ put-put l at s (x ∷ []) i e (omega arith)
+
+  pub set-put-front : (l : List A) (at : ℕ) (s : List A) (next : ℕ) (x : A) → next ≡ suc at → next + length s ≤ length l
+      → set (put l next s) at x ≡ put l at (x ∷ s)
+  unfolding put
+  set-put-front l at s next x e h =
+      let rest = s ++ drop (suc at + length s) l in
+      let place : suc at + length s ≡ at + suc (length s) = omega arith in
+      let front : set (take (suc at) l) at x ≡ take at l ++ x ∷ [] = sym (take-set-lt (suc at) l at x (omega arith)) ∙ take-suc-set l at x (omega arith) in
+      ap (λ (k : ℕ). set (put l k s) at x) e
+      ∙ (set-append-left (take (suc at) l) rest at x (rw (length-take-le (suc at) l (omega arith)) (omega arith))
+      ∙ (ap (λ (k : List A). k ++ rest) front
+      ∙ (append-assoc (take at l) (x ∷ []) rest ∙ ap (λ (k : ℕ). take at l ++ x ∷ (s ++ drop k l)) place)))
