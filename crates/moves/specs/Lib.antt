@@ -1,0 +1,2 @@
+-- One turn of each loop that moves or lays a run, over plain lists.
+pub mod Steps
