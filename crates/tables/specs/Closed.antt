@@ -1,8 +1,8 @@
 -- Closing on the tables: the head is taken off while it is ready, one finish entry is written for each, and the next head is looked at. What that
 -- leaves is what the rules' closing leaves of the state that the tables hold.
-use Prim.Native.Nat.{ℕ, zero, suc, _+_, _*_, _-_, _≤_, _<_}
-use mathlib.Core.Bool.{Bool, true, false, cond}
-use mathlib.Core.List.{List, [], _∷_, _++_, map, tail-eq-of-cons-eq}
+use Prim.Native.Nat.{ℕ, zero, suc, _+_, _*_, _≤_, _<_}
+use mathlib.Core.Bool.{cond}
+use mathlib.Core.List.{List, [], _∷_, _++_, tail-eq-of-cons-eq}
 use mathlib.Core.Path.{_≡_, refl, sym, ap, ap₂, _∙_, subst}
 use native.Mathlib.Omega.{arith}
 use lib.IntN.{ℤ}
@@ -10,7 +10,7 @@ use lib.ListN.{length}
 use Rattle.rules.specs.Ledger.{Entry, Clock, Books}
 use Rattle.rules.specs.Closing.{ready, commits, Outcome, version, aborts, Finish, finish, books-after, close, Closed, finish-first}
 use Rattle.laws.specs.Tests.{split}
-use Rattle.laws.specs.Cuts.{cut, put, length-put, put-nothing, put-put}
+use Rattle.laws.specs.Cuts.{put, length-put, put-nothing, put-put}
 use Rattle.claims.specs.SoundParts.{Sound}
 use Rattle.claims.specs.SoundKept.{off-sound}
 use Rattle.claims.specs.Steps.{close-nil, close-ready, close-rest}

@@ -1,15 +1,15 @@
 -- Joining: the rows from a place on move up by one, and the newcomer's row is laid into the gap. The waiting list then has it at that place; kept
 -- commits, values and counters see nothing of it.
-use Prim.Native.Nat.{ℕ, zero, suc, _+_, _*_, _-_, _≤_, _<_}
-use mathlib.Core.List.{List, [], _∷_, _++_}
+use Prim.Native.Nat.{ℕ, suc, _+_, _*_, _-_, _≤_, _<_}
+use mathlib.Core.List.{List}
 use mathlib.Core.Path.{_≡_, refl, sym, ap, ap₂, _∙_}
 use native.Mathlib.Omega.{arith}
-use lib.IntN.{ℤ, pos}
-use lib.ListN.{length, getD}
+use lib.IntN.{ℤ}
+use lib.ListN.{length}
 use Rattle.rules.specs.Lists.{insertAt}
 use Rattle.laws.specs.Cuts.{cut, put, length-cut, length-put, cut-put-below, cut-put-above, cut-put-within, cut-cut}
 use Rattle.laws.specs.Tabs.{tab-insert}
-use Rattle.tables.specs.Layout.{book-words, sums-words, waiting-row, waiting-amounts, kept-row, kept-amounts}
+use Rattle.tables.specs.Layout.{book-words, sums-words, waiting-row, waiting-amounts}
 use Rattle.tables.specs.Rows.{row-entry}
 use Rattle.tables.specs.View.{waiting-words, entry-at, waiting-view}
 use Rattle.tables.specs.NewRow.{first-words, with-row, RowFits, length-with-row, with-row-below, with-row-above, newcomer, new-entry}

@@ -1,17 +1,17 @@
 -- Keeping a commit: the head's row is copied to the kept row of its version, and the commit that stood there, if 64 were kept, is folded into the
 -- values. The books then are the rules' books after the commit.
-use Prim.Native.Nat.{ℕ, zero, suc, _+_, _*_, _-_, _%_, _≤_, _<_, min}
-use mathlib.Core.Bool.{Bool, true, false, cond}
-use mathlib.Core.List.{List, [], _∷_, _++_}
+use Prim.Native.Nat.{ℕ, suc, _+_, _*_, _-_, _%_, _≤_, _<_, min}
+use mathlib.Core.Bool.{cond}
+use mathlib.Core.List.{List, [], _∷_}
 use mathlib.Core.Logic.{_⊎_, inl, inr, ⊎-elim}
-use mathlib.Core.Path.{_≡_, refl, sym, ap, ap₂, _∙_}
+use mathlib.Core.Path.{_≡_, sym, ap, ap₂, _∙_}
 use native.Mathlib.Omega.{arith}
 use lib.Dec.{leb}
 use lib.IntN.{ℤ}
 use lib.ListN.{length, take, drop}
 use borrow.Author.Tests.{leb-true, leb-false}
 use Rattle.rules.specs.Sizes.{keys, most-kept}
-use Rattle.rules.specs.Ledger.{Write, Transaction, Entry, Commit, Books}
+use Rattle.rules.specs.Ledger.{Write, Commit}
 use Rattle.rules.specs.Closing.{written, folded, kept-of, committed}
 use Rattle.laws.specs.Tests.{split}
 use Rattle.claims.specs.SoundKept.{length-written}

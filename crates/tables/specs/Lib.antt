@@ -7,3 +7,5 @@ pub mod Joined
 pub mod TakenOff
 pub mod Keeping
 pub mod Closed
+pub mod Tested
+pub mod Good

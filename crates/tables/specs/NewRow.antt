@@ -1,15 +1,15 @@
 -- A row laid into a table: eight words, then the keys read, then the keys written. What it says, and that no other row sees it.
-use Prim.Native.Nat.{ℕ, zero, suc, _+_, _-_, _≤_, _<_}
-use mathlib.Core.List.{List, [], _∷_, _++_}
-use mathlib.Core.Path.{_≡_, refl, sym, ap, ap₂, _∙_}
+use Prim.Native.Nat.{ℕ, _+_, _≤_, _<_}
+use mathlib.Core.List.{List, [], _∷_}
+use mathlib.Core.Path.{_≡_, refl, sym, ap, _∙_}
 use native.Mathlib.Omega.{arith}
 use lib.IntN.{ℤ, pos}
-use lib.ListN.{length, getD, take, drop}
+use lib.ListN.{length, getD}
 use Rattle.rules.specs.Partitions.{none-heard}
-use Rattle.rules.specs.Ledger.{Write, Transaction, Entry}
-use Rattle.laws.specs.Cuts.{cut, put, length-put, cut-put-below, cut-put-above, cut-put-within, cut-put-same, cut-cut, getD-cut}
+use Rattle.rules.specs.Ledger.{Write, Entry}
+use Rattle.laws.specs.Cuts.{cut, put, length-put, cut-put-below, cut-put-above, cut-put-same, getD-cut}
 use Rattle.laws.specs.Tabs.{tab, tab-same, tab-list}
-use Rattle.tables.specs.Rows.{row-reads, row-keys, row-writes, row-transaction, row-entry}
+use Rattle.tables.specs.Rows.{row-reads, row-writes, row-transaction, row-entry}
 
 -- The eight words of a newcomer without votes.
 abbrev pub first-words : ℕ → ℕ → ℕ → ℕ → List ℕ → List ℕ → List ℕ

@@ -1,10 +1,10 @@
 -- A row of 24 words with its 8 amounts, and what it says. Waiting entries and kept commits have one form: identity, partition set, st, rt, who said
 -- yes, who said no, how many keys were read, how many written; 8 keys read; 8 keys written. Of a kept row the words 1 to 5 are never looked at.
 use Prim.Native.Nat.{ℕ, _+_}
-use mathlib.Core.List.{List, [], _∷_, map}
+use mathlib.Core.List.{List}
 use mathlib.Core.Path.{_≡_}
 use lib.IntN.{ℤ, pos}
-use lib.ListN.{length, getD}
+use lib.ListN.{getD}
 use Rattle.rules.specs.Ledger.{Write, Transaction, Entry, Commit, keys-of}
 use Rattle.laws.specs.Tabs.{tab, map-tab}
 
