@@ -3,11 +3,12 @@ use Prim.Native.Nat.{ℕ, _+_, _≤_, _<_}
 use mathlib.Core.Bool.{Bool, true, false, not}
 use mathlib.Core.List.{List}
 use mathlib.Core.Path.{_≡_, _∙_}
-use borrow.Author.Tests.{le-leb, lt-leb}
+use borrow.Author.Tests.{le-leb, lt-leb, not-true, not-false}
 use lib.ListN.{length, drop, getD, drop-of-length-le}
 use Rattle.rules.specs.Lists.{any}
-use Rattle.rules.specs.Keys.{ascending, bad-key, bad-keys}
+use Rattle.rules.specs.Keys.{ascending, bad-key, bad-keys, too-many, good-set}
 use Rattle.rules.specs.Sizes.{keys}
+use Rattle.laws.specs.Tests.{and-right, or-right}
 use Rattle.keys.specs.Ascending.{from-here}
 
 -- Some key from i on is over 1,023.
@@ -35,3 +36,12 @@ bad-found i xs same here = rw (same ∙ here)
 pub bad-order : (i : ℕ) (xs : List ℕ) → bad-from 0 xs ≡ bad-from i xs → bad-from i xs ≡ false → not (ascending xs) ≡ bad-keys xs
 unfolding bad-keys bad-from
 bad-order i xs same nowhere = rw (same ∙ nowhere)
+
+-- A list within its limits is ascending: what a merge asks of it.
+pub not-bad-ascending : (xs : List ℕ) → bad-keys xs ≡ false → ascending xs ≡ true
+unfolding bad-keys
+not-bad-ascending xs h = not-false (ascending xs) (or-right (any bad-key xs) (not (ascending xs)) h)
+
+pub good-ascending : (xs : List ℕ) → good-set xs ≡ true → ascending xs ≡ true
+unfolding good-set
+good-ascending xs h = not-bad-ascending xs (not-true (bad-keys xs) (and-right (not (too-many xs)) (not (bad-keys xs)) h))

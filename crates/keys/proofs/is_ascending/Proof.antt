@@ -46,7 +46,9 @@ loop-less : tie.Need-loop-less Inv-loop μ-loop
 loop-less c = search needs
 
 loop-again : tie.Need-loop-again Inv-loop μ-loop
-loop-again c = (search needs, c .before .before .before .before .loop .inv .1 ∙ ascending-step _ _ (c .before .before .before .loop-test .taken) (c .if1 .left))
+loop-again c =
+    let head = c .before .before .before .before in
+    (search needs, head .loop .inv .1 ∙ ascending-step _ _ (c .before .before .before .loop-test .taken) (c .if1 .left))
 
 returns-2 : tie.Need-returns-2 Inv-loop μ-loop
 returns-2 c = sym (c .before .loop .inv .1 ∙ ascending-short _ _ (c .loop-test .left))
