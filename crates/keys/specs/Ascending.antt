@@ -11,18 +11,14 @@ use lib.ListN.{length, take, drop, getD}
 use lib.Seq.{drop-cons}
 use Rattle.rules.specs.Keys.{above, ascending}
 use Rattle.laws.specs.Tests.{and-left, and-right, and-both}
+use Rattle.laws.specs.Members.{ascending-rest}
 
 -- What is left of an ascending list is ascending, and so is what is taken of it.
-pub above-ascending : (x : ℕ) (xs : List ℕ) → above x xs ≡ true → ascending xs ≡ true
-unfolding above ascending
-above-ascending x [] h = refl
-above-ascending x (y ∷ xs) h = and-right (ltb x y) (above y xs) h
-
 pub ascending-drop : (n : ℕ) (xs : List ℕ) → ascending xs ≡ true → ascending (drop n xs) ≡ true
 unfolding ascending
 ascending-drop zero xs h = h
 ascending-drop (suc n) [] h = refl
-ascending-drop (suc n) (x ∷ xs) h = ascending-drop n xs (above-ascending x xs h)
+ascending-drop (suc n) (x ∷ xs) h = ascending-drop n xs (ascending-rest x xs h)
 
 above-take : (n x : ℕ) (xs : List ℕ) → above x xs ≡ true → above x (take n xs) ≡ true
 unfolding above
@@ -38,7 +34,7 @@ ascending-take zero xs h = refl
 ascending-take (suc n) [] h = refl
 ascending-take (suc n) (x ∷ xs) h = above-take n x xs h
 
--- The key at i with what stands from it on, and with the key after it.
+-- What stands from i on: the key at i, and what stands after it.
 pub from-here : (xs : List ℕ) (i : ℕ) → i < length xs → drop i xs ≡ getD xs i 0 ∷ drop (i + 1) xs
 from-here xs i h = rw add-one (drop-cons xs i 0 h)
 

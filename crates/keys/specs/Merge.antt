@@ -10,8 +10,20 @@ use lib.Dec.{ltb}
 use lib.ListN.{length, drop, getD, drop-of-length-le}
 use Rattle.rules.specs.Lists.{member}
 use Rattle.rules.specs.Keys.{above, ascending, shared}
-use Rattle.laws.specs.Tests.{and-left, and-right, and-both}
+use Rattle.laws.specs.Tests.{split, and-left, and-right, and-both}
+use Rattle.laws.specs.Members.{member-exactly, above-larger}
 use Rattle.keys.specs.Ascending.{from-here, ascending-drop}
+
+-- A key that a list stands above isn't in it: it is passed, in front of either list.
+member-above : (x : ℕ) (ys : List ℕ) → above x ys ≡ true → member x ys ≡ false
+member-above x ys h =
+    split (member x ys)
+    (λ q. let l : x < x = above-larger x ys h x (member-exactly x ys .0 q) in absurd (omega arith))
+    (λ q. q)
+
+pass-one : (x : ℕ) (xs ys : List ℕ) → above x ys ≡ true → shared (x ∷ xs) ys ≡ shared xs ys
+unfolding shared
+pass-one x xs ys h = rw (member-above x ys h)
 
 -- What stands above a key stands above a smaller one.
 above-lower : (x y : ℕ) (ys : List ℕ) → x < y → above y ys ≡ true → above x ys ≡ true
@@ -20,18 +32,6 @@ above-lower x y [] l h = refl
 above-lower x y (z ∷ ys) l h =
     let m : y < z = ltb-true y z (and-left (ltb y z) (above z ys) h) in
     and-both (ltb x z) (above z ys) (lt-ltb x z (omega arith)) (and-right (ltb y z) (above z ys) h)
-
--- A key that a list stands above isn't in it, so it is shared with no list of that one's keys, whichever of the two has it in front.
-member-above : (x : ℕ) (ys : List ℕ) → above x ys ≡ true → member x ys ≡ false
-unfolding above
-member-above x [] h = refl
-member-above x (y ∷ ys) h =
-    let l : x < y = ltb-true x y (and-left (ltb x y) (above y ys) h) in
-    rw (ne-eqb x y (λ e. omega arith)) (member-above x ys (above-lower x y ys l (and-right (ltb x y) (above y ys) h)))
-
-pass-one : (x : ℕ) (xs ys : List ℕ) → above x ys ≡ true → shared (x ∷ xs) ys ≡ shared xs ys
-unfolding shared
-pass-one x xs ys h = rw (member-above x ys h)
 
 pass-other : (y : ℕ) (xs ys : List ℕ) → above y xs ≡ true → shared xs (y ∷ ys) ≡ shared xs ys
 unfolding shared above
@@ -45,7 +45,7 @@ unfolding shared
 shared-nothing [] = refl
 shared-nothing (x ∷ xs) = shared-nothing xs
 
--- A smaller key stands below all of an ascending list from i on.
+-- A smaller key stands below all of an ascending list from j on.
 above-from : (x : ℕ) (ys : List ℕ) (j : ℕ) → j < length ys → ascending ys ≡ true → x < getD ys j 0 → above x (drop j ys) ≡ true
 unfolding above ascending
 above-from x ys j l a h =

@@ -41,7 +41,7 @@ pub fn is_bad(keys: &[u32]) -> bool
     !is_ascending(keys)
 }
 
-// Both lists are walked from their smallest keys on: the smaller of the two keys looked at is in no way shared, and is passed.
+// Both lists are walked from their smallest keys on: the smaller of the two keys looked at is not in the rest of the other list, and is passed.
 pub fn smallest_shared(a: &[u32], b: &[u32]) -> Shared
     requires { ⌜ ascending (now a) ≡ true ⌝ }
     requires { ⌜ ascending (now b) ≡ true ⌝ }

@@ -20,12 +20,6 @@ rest : (w b : ℕ) → b < 2 → (w * 2 + b) / 2 ≡ w
 rest w b l = omega arith
 
 -- Both of two bits, and one of two.
-both-below : (x y : ℕ) → x < 2 → min x y < 2
-both-below x y l = omega arith
-
-one-below : (x y : ℕ) → x < 2 → y < 2 → max x y < 2
-one-below x y l m = omega arith
-
 both-bits : (x y : ℕ) → x < 2 → y < 2 → eqb (min x y) 1 ≡ (eqb x 1 && eqb y 1)
 both-bits x y l m =
     split (eqb x 1)
