@@ -78,7 +78,7 @@ apart-exactly xs ys = (
 )
 
 -- What stands above a key in an ascending list is larger than it.
-above-larger : (x : ℕ) (xs : List ℕ) → above x xs ≡ true → (y : ℕ) → List·Memᴰ y xs → x < y
+pub above-larger : (x : ℕ) (xs : List ℕ) → above x xs ≡ true → (y : ℕ) → List·Memᴰ y xs → x < y
 unfolding above
 above-larger x [] h y m = absurd (List·Memᴰ·not-nil m)
 above-larger x (z ∷ xs) h y m =
@@ -86,7 +86,7 @@ above-larger x (z ∷ xs) h y m =
     ⊎-elim (λ q. subst (λ (n : ℕ). x < n) (sym q) first)
     (λ q. let rest : z < y = above-larger z xs (and-right (ltb x z) (above z xs) h) y q in omega arith) (List·Memᴰ·cases-cons m)
 
-ascending-rest : (x : ℕ) (xs : List ℕ) → ascending (x ∷ xs) ≡ true → ascending xs ≡ true
+pub ascending-rest : (x : ℕ) (xs : List ℕ) → ascending (x ∷ xs) ≡ true → ascending xs ≡ true
 unfolding ascending above
 ascending-rest x [] h = refl
 ascending-rest x (y ∷ xs) h = and-right (ltb x y) (above y xs) h
