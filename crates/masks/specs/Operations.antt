@@ -1,7 +1,7 @@
 -- What the language's operations on bits do to a set: the partitions that the result names.
 use Prim.Native.Nat.{ℕ, zero, suc, _+_, _-_, _*_, _^_, _/_, _%_, _≤_, _<_, min, max}
-use mathlib.Core.Bool.{Bool, true, false, not, _&&_, _||_}
-use mathlib.Core.Path.{_≡_, refl, sym, _∙_}
+use mathlib.Core.Bool.{false, not, _&&_, _||_, or-comm}
+use mathlib.Core.Path.{_≡_, sym, _∙_}
 use borrow.Author.Tests.{eqb-true, eqb-false, eq-eqb, ne-eqb}
 use native.Mathlib.Nat.{mod-eq-of-lt, div-div-eq-div-mul, pow-succ', one-mul}
 use native.Mathlib.Omega.{arith}
@@ -89,10 +89,4 @@ shift-only n p l = rw (one-mul (2 ^ p)) (mod-eq-of-lt (pow-lt l))
 pub or-only : (set p : ℕ) → bitOr set (only p) ≡ with-partition p set
 or-only set p =
     same-bits (bitOr set (only p)) (with-partition p set)
-    (λ q. names-or set (only p) q ∙ rw (names-only p q, names-with p set q) (or-swap (names set q) (eqb p q)))
-  where
-    or-swap : (a b : Bool) → (a || b) ≡ (b || a)
-    or-swap true true = refl
-    or-swap true false = refl
-    or-swap false true = refl
-    or-swap false false = refl
+    (λ q. names-or set (only p) q ∙ rw (names-only p q, names-with p set q) (or-comm (names set q) (eqb p q)))

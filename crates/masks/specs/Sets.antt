@@ -1,7 +1,7 @@
 -- A set of partitions by its words in the rules: one of the others, one more, a bad set, a local one. Each law takes what a test or a shift of the code gives.
 use Prim.Native.Nat.{ℕ, _*_, _^_, _%_, _≤_, _<_}
-use mathlib.Core.Bool.{Bool, true, false, not, _&&_}
-use mathlib.Core.Path.{_≡_, refl, sym, ap, _∙_}
+use mathlib.Core.Bool.{Bool, true, false, not, and-true, and-false}
+use mathlib.Core.Path.{_≡_, sym, _∙_}
 use borrow.Author.Tests.{eq-eqb, ne-eqb, not-true, not-false}
 use native.Mathlib.Omega.{arith}
 use lib.Bits.{bitOr}
@@ -10,21 +10,13 @@ use Rattle.rules.specs.Partitions.{names, with-partition, only, bad-set, other}
 use Rattle.masks.specs.Operations.{shift-only, or-only}
 
 -- One of "the involved partitions, less our own".
-and-not : (a t : Bool) → t ≡ true → false ≡ (a && not t)
-and-not true t e = ap not (sym e)
-and-not false t e = refl
-
-and-unless : (a t : Bool) → t ≡ false → a ≡ (a && not t)
-and-unless true t e = ap not (sym e)
-and-unless false t e = refl
-
 pub own-is-no-other : (own set p : ℕ) → p ≡ own → false ≡ other own set p
 unfolding other
-own-is-no-other own set p e = and-not (names set p) (eqb p own) (eq-eqb p own e)
+own-is-no-other own set p e = rw (eq-eqb p own e) (sym (and-false (names set p)))
 
 pub other-is-named : (own set p : ℕ) → (p ≡ own → ⊥) → names set p ≡ other own set p
 unfolding other
-other-is-named own set p n = and-unless (names set p) (eqb p own) (ne-eqb p own n)
+other-is-named own set p n = rw (ne-eqb p own n) (sym (and-true (names set p)))
 
 -- The set with p in it too, and the set of p alone, by a shift in a word.
 pub with-shift : (set p : ℕ) → p < 8 → bitOr set (1 * 2 ^ p % 2 ^ 32) ≡ with-partition p set
