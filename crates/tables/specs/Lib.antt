@@ -7,5 +7,9 @@ pub mod Joined
 pub mod TakenOff
 pub mod Keeping
 pub mod Closed
+pub mod Counters
+pub mod Opened
 pub mod Tested
 pub mod Good
+pub mod Judged
+pub mod Settled
