@@ -12,7 +12,12 @@ pub mod Events
 pub mod Soundness
 pub mod Refusals
 pub mod Logs
+pub mod Bytes
+pub mod Records
+pub mod AnswerText
+pub mod Program
 pub mod Cases
 pub mod WholeRun
+pub mod WholeRunText
 pub mod BothSides
 pub mod Slips
