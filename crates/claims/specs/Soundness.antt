@@ -15,7 +15,7 @@ use Rattle.rules.specs.Sizes.{keys, most-partitions, most-waiting, most-k, most
 use Rattle.rules.specs.Partitions.{names, with-partition, beyond, bad-set, every-partition, other, Ballot, aye, nay, Heard, none-heard, hear, from-others}
 use Rattle.rules.specs.Keys.{bad-keys, too-many, good-set}
 use Rattle.rules.specs.Ledger.{Transaction, Entry, Clock, State, keys-of, opening, sizes-fit}
-use Rattle.rules.specs.Delivery.{ticked, entered, fate}
+use Rattle.rules.specs.Delivery.{Fate, ticked, entered, fate, joined}
 use Rattle.rules.specs.Events.{Event, delivery, vote, change, read, closing, deliver-at, deliver-with, with-vote, take-vote, with-k, take-change, take-read, accepted}
 use Rattle.rules.specs.Soundness.{identities, different, good-entry, sound}
 use Rattle.rules.specs.Refusals.{is-for, waits-for, delivery-checks, vote-checks, change-checks, checks, refusal, step}
@@ -27,7 +27,7 @@ use Rattle.claims.specs.Refused.{NoneApplies, none-applies}
 use Rattle.claims.specs.SoundParts.{Sizes, sizes-facts, Sound, sound-facts, sound-test, GoodEntry, entry-facts, entry-test, entry-again}
 use Rattle.claims.specs.SoundKept.{Room, tick-sound, join-sound, close-sound}
 
-abbrev Holds : State → Type 0
+abbrev pub Holds : State → Type 0
 Holds s = Sound (s .clock) (s .waiting) (s .books)
 
 -- A list of keys that neither 2 nor 3 refuses is within its limits.
@@ -77,14 +77,19 @@ taken t s q h =
           };
     }
 
+-- Before the closing that follows a delivery, a vote or a change, the state is sound too.
+pub joined-sound : (t : Transaction) (s : State) (f : Fate) → refusal (delivery t) s ≡ none → Holds s
+    → Sound (ticked (s .clock)) (joined f (entered (ticked (s .clock)) t none-heard) (s .waiting)) (s .books)
+joined-sound t s f q h =
+    let c : Clock = ticked (s .clock) in
+    let ok : Taken c t s = taken t s q h in
+    join-sound c f (entered c t none-heard) (s .waiting) (s .books) (ok .room) (ok .new) (ok .good)
+    (tick-sound (s .clock) (s .waiting) (s .books) (ok .dc-open) h)
+
 delivery-sound : (t : Transaction) (s : State) → refusal (delivery t) s ≡ none → Holds s → Holds (deliver-with none-heard t s .next)
 unfolding deliver-with deliver-at closing
 delivery-sound t s q h =
-    let c : Clock = ticked (s .clock) in
-    let ok : Taken c t s = taken t s q h in
-    close-sound c _ (s .books)
-    (join-sound c (fate c t (s .waiting) (s .books)) (entered c t none-heard) (s .waiting) (s .books) (ok .room) (ok .new) (ok .good)
-    (tick-sound (s .clock) (s .waiting) (s .books) (ok .dc-open) h))
+    close-sound (ticked (s .clock)) _ (s .books) (joined-sound t s (fate (ticked (s .clock)) t (s .waiting) (s .books)) q h)
 
 -- A vote of another involved partition joins votes of such.
 involved-with : (own set p q voters : ℕ) → other own set p ≡ true → (not (names voters q) || other own set q) ≡ true
@@ -172,11 +177,11 @@ unfolding with-vote
 identities-vote i p b [] = refl
 identities-vote i p b (e ∷ es) = ap (λ l. e .transaction .identity ∷ l) (identities-vote i p b es)
 
-vote-sound : (i p : ℕ) (b : Ballot) (s : State) → refusal (vote i p b) s ≡ none → Holds s → Holds (take-vote i p b s .next)
-unfolding take-vote closing refusal checks vote-checks
-vote-sound i p b s q h =
+pub voted-sound : (i p : ℕ) (b : Ballot) (s : State) → refusal (vote i p b) s ≡ none → Holds s
+    → Sound (s .clock) (map (with-vote i p b) (s .waiting)) (s .books)
+unfolding refusal checks vote-checks
+voted-sound i p b s q h =
     let not-met : NoneApplies (vote-checks i p s) = none-applies (vote-checks i p s) q in
-    close-sound (s .clock) (map (with-vote i p b) (s .waiting)) (s .books)
     record {
       sizes = h .sizes;
       dc-fits = h .dc-fits;
@@ -192,11 +197,14 @@ vote-sound i p b s q h =
           (s .waiting) (h .entries-good) (not-met .1 .0);
     }
 
-change-sound : (k : ℕ) (s : State) → refusal (change k) s ≡ none → Holds s → Holds (take-change k s .next)
-unfolding take-change closing with-k refusal checks change-checks
-change-sound k s q h =
+vote-sound : (i p : ℕ) (b : Ballot) (s : State) → refusal (vote i p b) s ≡ none → Holds s → Holds (take-vote i p b s .next)
+unfolding take-vote closing
+vote-sound i p b s q h = close-sound (s .clock) (map (with-vote i p b) (s .waiting)) (s .books) (voted-sound i p b s q h)
+
+pub changed-sound : (k : ℕ) (s : State) → refusal (change k) s ≡ none → Holds s → Sound (with-k k (s .clock)) (s .waiting) (s .books)
+unfolding with-k refusal checks change-checks
+changed-sound k s q h =
     let not-met : NoneApplies (change-checks k) = none-applies (change-checks k) q in
-    close-sound (with-k k (s .clock)) (s .waiting) (s .books)
     record {
       sizes =
           record {
@@ -214,6 +222,10 @@ change-sound k s q h =
       apart = h .apart;
       entries-good = h .entries-good;
     }
+
+change-sound : (k : ℕ) (s : State) → refusal (change k) s ≡ none → Holds s → Holds (take-change k s .next)
+unfolding take-change closing
+change-sound k s q h = close-sound (with-k k (s .clock)) (s .waiting) (s .books) (changed-sound k s q h)
 
 accepted-sound : (e : Event) (s : State) → refusal e s ≡ none → Holds s → Holds (accepted e s .next)
 unfolding accepted take-read

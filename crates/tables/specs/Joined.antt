@@ -1,17 +1,18 @@
 -- Joining: the rows from a place on move up by one, and the newcomer's row is laid into the gap. The waiting list then has it at that place; kept
 -- commits, values and counters see nothing of it.
-use Prim.Native.Nat.{ℕ, suc, _+_, _*_, _-_, _≤_, _<_}
+use Prim.Native.Nat.{ℕ, zero, suc, _+_, _*_, _-_, _≤_, _<_, min}
 use mathlib.Core.List.{List}
 use mathlib.Core.Path.{_≡_, refl, sym, ap, ap₂, _∙_}
 use native.Mathlib.Omega.{arith}
 use lib.IntN.{ℤ}
-use lib.ListN.{length}
+use lib.ListN.{length, getD}
 use Rattle.rules.specs.Lists.{insertAt}
-use Rattle.laws.specs.Cuts.{cut, put, length-cut, length-put, cut-put-below, cut-put-above, cut-put-within, cut-cut}
-use Rattle.laws.specs.Tabs.{tab-insert}
-use Rattle.tables.specs.Layout.{book-words, sums-words, waiting-row, waiting-amounts}
-use Rattle.tables.specs.Rows.{row-entry}
-use Rattle.tables.specs.View.{waiting-words, entry-at, waiting-view}
+use Rattle.rules.specs.Sizes.{most-kept}
+use Rattle.laws.specs.Cuts.{cut, put, length-cut, length-put, cut-put-below, cut-put-above, cut-put-within, cut-cut, getD-cut}
+use Rattle.laws.specs.Tabs.{tab-insert, tab-same}
+use Rattle.tables.specs.Layout.{book-words, sums-words, waiting-row, waiting-amounts, kept-row, kept-amounts}
+use Rattle.tables.specs.Rows.{row-entry, row-commit}
+use Rattle.tables.specs.View.{waiting-words, kept-words, entry-at, commit-at, waiting-view, kept-view, values-view, books-view}
 use Rattle.tables.specs.NewRow.{first-words, with-row, RowFits, length-with-row, with-row-below, with-row-above, newcomer, new-entry}
 
 -- A part of what was moved within a list.
@@ -126,3 +127,30 @@ joined-waiting book sums n i identity set st rt reads keys amounts long long-sum
     (entry-before book sums n i first reads keys amounts long long-sums room low refl few-reads few-keys same)
     (new-entry (gap-book book n i) (waiting-row i) identity set st rt reads keys (gap-sums sums n i) (waiting-amounts i) amounts fits same (omega arith))
     (entry-behind book sums n i first reads keys amounts long long-sums room low refl few-reads few-keys same)
+
+-- The books see nothing of it, nor do the counters.
+pub joined-books : (book : List ℕ) (sums : List ℤ) (n i : ℕ) (first reads keys : List ℕ) (amounts : List ℤ)
+    → book-words ≤ length book → sums-words ≤ length sums → n < 32 → i ≤ n → length first ≡ 8 → length reads ≤ 8 → length keys ≤ 8
+    → length amounts ≡ length keys → (sc : ℕ)
+    → books-view sc (joined-book book n i first reads keys) (joined-sums sums n i amounts) ≡ books-view sc book sums
+unfolding books-view kept-view values-view commit-at kept-words
+joined-books book sums n i first reads keys amounts long long-sums room low eight few-reads few-keys same sc =
+    λ k. record {
+      sc = sc;
+      kept = tab-same (min sc most-kept) (λ j. commit-at (joined-book book n i first reads keys) (joined-sums sums n i amounts) (sc - j))
+          (λ j. commit-at book sums (sc - j))
+          (λ j below. ap₂ row-commit
+          (joined-behind book sums n i first reads keys amounts long long-sums room low eight few-reads few-keys same (kept-row (sc - j)) 24 (omega arith))
+          (joined-sums-behind book sums n i first reads keys amounts long long-sums room low eight few-reads few-keys same (kept-amounts (sc - j)) 8 (omega arith))) k;
+      values = joined-sums-before book sums n i first reads keys amounts long long-sums room low eight few-reads few-keys same 0 1024 (omega arith) k;
+    }
+
+pub joined-counter : (book : List ℕ) (sums : List ℤ) (n i : ℕ) (first reads keys : List ℕ) (amounts : List ℤ)
+    → book-words ≤ length book → sums-words ≤ length sums → n < 32 → i ≤ n → length first ≡ 8 → length reads ≤ 8 → length keys ≤ 8
+    → length amounts ≡ length keys → (j : ℕ) → j < 6 → getD (joined-book book n i first reads keys) j 0 ≡ getD book j 0
+joined-counter book sums n i first reads keys amounts long long-sums room low eight few-reads few-keys same j below =
+    let e : 0 + j ≡ j = omega arith in
+    rw e at (sym (getD-cut 0 6 (joined-book book n i first reads keys) j 0 below)
+    ∙ (ap (λ (l : List ℕ). getD l j 0)
+    (joined-before book sums n i first reads keys amounts long long-sums room low eight few-reads few-keys same 0 6 (omega arith))
+    ∙ getD-cut 0 6 book j 0 below))
