@@ -6,6 +6,7 @@ pub mod NewRow
 pub mod Joined
 pub mod TakenOff
 pub mod Keeping
+pub mod Voted
 pub mod Closed
 pub mod Counters
 pub mod Opened
