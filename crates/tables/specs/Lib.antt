@@ -12,5 +12,6 @@ pub mod Counters
 pub mod Opened
 pub mod Tested
 pub mod Good
+pub mod Bytes
 pub mod Judged
 pub mod Settled
