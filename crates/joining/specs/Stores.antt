@@ -1,15 +1,18 @@
--- Stores one behind the other lay a list into the table.
+-- What the stores of joining leave: a run of stores lays a list into the table, rows moved up leave a gap, a row laid into it has joined.
 use Prim.Native.Nat.{ℕ, suc, _+_, _*_, _-_, _≤_}
+use mathlib.Core.Bool.{Bool, true, false}
 use mathlib.Core.List.{List, [], _∷_, _++_, append-assoc}
 use mathlib.Core.Path.{_≡_, ap, _∙_}
 use native.Mathlib.Omega.{arith}
 use lib.IntN.{ℤ}
-use lib.ListN.{length, set, take, drop}
+use lib.ListN.{length, getD, set, take, drop}
 use lib.Seq.{sets, sets-eq}
+use Rattle.rules.specs.Partitions.{with-partition}
 use Rattle.laws.specs.Cuts.{cut, put}
 use Rattle.tables.specs.Layout.{waiting-row, waiting-amounts}
 use Rattle.tables.specs.NewRow.{with-row}
 use Rattle.tables.specs.Joined.{gap-book, gap-sums, joined-book, joined-sums}
+use Rattle.tables.specs.Voted.{voted-book}
 
 pub stores-put : {A : Type 0} (vs l : List A) (at : ℕ) → at + length vs ≤ length l → sets l at vs ≡ put l at vs
 unfolding put
@@ -57,3 +60,14 @@ pub sums-joined : {gap out : List ℤ} (sums : List ℤ) (n i : ℕ) (amounts : 
     → out ≡ joined-sums sums n i amounts
 unfolding joined-sums
 sums-joined sums n i amounts opened laid = cc
+
+-- One more who said yes; one more who said no.
+pub aye-stored : {out : List ℕ} (book : List ℕ) (i p : ℕ) (agrees : Bool) → agrees ≡ true
+    → out ≡ set book (waiting-row i + 4) (with-partition p (getD book (waiting-row i + 4) 0)) → out ≡ voted-book book i p agrees
+unfolding voted-book
+aye-stored book i p agrees said stored = rw said stored
+
+pub nay-stored : {out : List ℕ} (book : List ℕ) (i p : ℕ) (agrees : Bool) → agrees ≡ false
+    → out ≡ set book (waiting-row i + 5) (with-partition p (getD book (waiting-row i + 5) 0)) → out ≡ voted-book book i p agrees
+unfolding voted-book
+nay-stored book i p agrees said stored = rw said stored

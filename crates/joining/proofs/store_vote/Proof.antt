@@ -1,8 +1,10 @@
 -- Either way the contract of `add_voter` is the definition of the table with the vote.
 use borrow.Author.Needs.{needs}
-use Rattle.tables.specs.Voted.{voted-book}
+use Rattle.joining.specs.Stores.{aye-stored, nay-stored}
 use Rattle.joining.proofs.store_vote.Statement.{statement}
 use Rattle.joining.proofs.store_vote.Tie as tie
+
+-- Either way the contract of `add_voter` is the definition of the table with the vote.
 
 mul-row : tie.Need-mul-row
 mul-row c = search needs
@@ -26,15 +28,13 @@ same-length : tie.Need-same-length
 same-length c = search needs
 
 returns : tie.Need-returns
-unfolding voted-book
-returns c = cc
+returns c = aye-stored _ _ _ _ (c .before .before .before .before .if1 .taken) (c .before .before .add-voter .ensures)
 
 same-length-2 : tie.Need-same-length-2
 same-length-2 c = search needs
 
 returns-2 : tie.Need-returns-2
-unfolding voted-book
-returns-2 c = cc
+returns-2 c = nay-stored _ _ _ _ (c .before .before .before .before .if1 .left) (c .before .before .add-voter2 .ensures)
 
 pub store-vote-spec : {M : Type 1} → statement M
 store-vote-spec =
