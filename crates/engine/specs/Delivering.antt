@@ -43,12 +43,12 @@ delivery-desk (abort reason) identity set st rt reads keys amounts book sums fin
     record { sc = getD book 2 0; waiting = getD book 5 0; finished = 0; book = book; sums = sums; finishes = fin }
 delivery-desk (join i) identity set st rt reads keys amounts book sums fin =
     record {
-        sc = getD book 2 0;
-        waiting = getD book 5 0 + 1;
-        finished = 0;
-        book = joined-book book (getD book 5 0) i (first-words identity set st rt reads keys) reads keys;
-        sums = joined-sums sums (getD book 5 0) i amounts;
-        finishes = fin
+      sc = getD book 2 0;
+      waiting = getD book 5 0 + 1;
+      finished = 0;
+      book = joined-book book (getD book 5 0) i (first-words identity set st rt reads keys) reads keys;
+      sums = joined-sums sums (getD book 5 0) i amounts;
+      finishes = fin;
     }
 
 -- The answer, and all three tables.
@@ -59,10 +59,10 @@ delivered-answer dc send finishes (join i) = Waits dc i send finishes
 unfoldable pub delivered-result : Clock → ℕ → Fate → Desk → Result Delivered
 delivered-result c set f d =
     record {
-        answer = delivered-answer (c .dc) (send-of (eqb set (only (c .own))) f) (closed-desk c d .finished) f;
-        book = settled-book c d;
-        sums = closed-desk c d .sums;
-        finishes = closed-desk c d .finishes
+      answer = delivered-answer (c .dc) (send-of (eqb set (only (c .own))) f) (closed-desk c d .finished) f;
+      book = settled-book c d;
+      sums = closed-desk c d .sums;
+      finishes = closed-desk c d .finishes;
     }
 
 -- What is known of a delivery that isn't refused.
@@ -226,15 +226,15 @@ module _ (identity set st : ℕ) (reads keys : List ℕ) (amounts : List ℤ) (b
   unfolding ticked clock-view
   desk-ready f q =
       record {
-          fit = record {
-              long = rw (desk-length f q) (h .long);
-              long-sums = rw (desk-length-sums f q) (h .long-sums);
-              room = desk-room f;
-              sound = desk-sound f q
-          };
-          untold = desk-untold f;
-          partitions = desk-counter f q 0 (omega arith);
-          own = desk-counter f q 1 (omega arith)
+        fit = record {
+          long = rw (desk-length f q) (h .long);
+          long-sums = rw (desk-length-sums f q) (h .long-sums);
+          room = desk-room f;
+          sound = desk-sound f q;
+        };
+        untold = desk-untold f;
+        partitions = desk-counter f q 0 (omega arith);
+        own = desk-counter f q 1 (omega arith);
       }
 
   -- What a delivery on the tables means: the rules' delivery of the state that they hold.
@@ -251,11 +251,11 @@ module _ (identity set st : ℕ) (reads keys : List ℕ) (amounts : List ℤ) (b
       let is = the-fate-is ∙ q in
       rw is
       (record {
-          says = answer-said (c .dc) (closed-desk c d .finished) l f ∙ rules-answer c l f;
-          state = settled-view c d ready a ∙ ap₂ (λ (es : List Entry) (b : Books). closing a c es b .next) the-list the-books;
-          told = settled-finishes c d ready
-              ∙ ap₂ (λ (es : List Entry) (b : Books). put (d .finishes) 0 (words-of (close c es b .finishes))) the-list the-books
-              ∙ ap (λ (l : List ℕ). put l 0 (words-of (close c (joined f (entered c t none-heard) (waiting-view n book sums)) (books-view sc book sums) .finishes))) (desk-finishes f);
-          counted = answer-counts (c .dc) (closed-desk c d .finished) (send-of l f) f
-              ∙ (settled-count c d ready ∙ ap₂ (λ (es : List Entry) (b : Books). length (close c es b .finishes)) the-list the-books)
+        says = answer-said (c .dc) (closed-desk c d .finished) l f ∙ rules-answer c l f;
+        state = settled-view c d ready a ∙ ap₂ (λ (es : List Entry) (b : Books). closing a c es b .next) the-list the-books;
+        told = settled-finishes c d ready
+            ∙ ap₂ (λ (es : List Entry) (b : Books). put (d .finishes) 0 (words-of (close c es b .finishes))) the-list the-books
+            ∙ ap (λ (l : List ℕ). put l 0 (words-of (close c (joined f (entered c t none-heard) (waiting-view n book sums)) (books-view sc book sums) .finishes))) (desk-finishes f);
+        counted = answer-counts (c .dc) (closed-desk c d .finished) (send-of l f) f
+            ∙ (settled-count c d ready ∙ ap₂ (λ (es : List Entry) (b : Books). length (close c es b .finishes)) the-list the-books);
       })
