@@ -1,10 +1,10 @@
 -- The place by two walks, over any list and any two tests: one back from the end while the entries may be passed, then one over the entries before the
 -- place that was reached.
-use Prim.Native.Nat.{ℕ, zero, suc, _+_, _-_, _≤_, _<_}
+use Prim.Native.Nat.{ℕ, zero, suc, _≤_}
 use mathlib.Core.Bool.{Bool, true, false, cond}
 use mathlib.Core.List.{List, [], _∷_}
-use mathlib.Core.Option.{Option, none, some, Option·map}
-use mathlib.Core.Path.{_≡_, refl, sym, ap, _∙_}
+use mathlib.Core.Option.{none, some}
+use mathlib.Core.Path.{_≡_, refl, ap}
 use native.Mathlib.Omega.{arith}
 use lib.ListN.{length, take, drop}
 use Rattle.rules.specs.Lists.{any, all}
@@ -31,6 +31,6 @@ module _ {A : Type 0} (block pass : A → Bool) where
   place-reached (e ∷ es) (suc i) r =
       let low = r .within in
       let rest : Reached pass es i =
-          record { within = omega arith; behind = r .behind; stopped = λ j q. r .stopped (suc j) (ap suc q) } in
+      record { within = omega arith; behind = r .behind; stopped = λ j q. r .stopped (suc j) (ap suc q) } in
       rw (not-all i (e ∷ es) (r .stopped i refl), place-reached es i rest)
       (split (block e) (λ q. rw q) (λ q. rw q (split (any block (take i es)) (λ b. rw b) (λ b. rw b))))

@@ -1,18 +1,16 @@
 -- The three tests on a good row, answered from its words and parts in the table.
-use Prim.Native.Nat.{ℕ, _+_, _-_, _≤_, _<_}
-use mathlib.Core.Bool.{Bool, true, false, not, _&&_, _||_}
+use Prim.Native.Nat.{ℕ, _+_, _≤_, _<_}
+use mathlib.Core.Bool.{Bool, true, false, not}
 use mathlib.Core.List.{List}
-use mathlib.Core.Path.{_≡_, refl, sym, ap, _∙_}
+use mathlib.Core.Path.{_≡_, sym, ap, _∙_}
 use borrow.Author.Tests.{le-leb, lt-leb, not-true, not-false}
 use native.Mathlib.Omega.{arith}
-use lib.Dec.{eqb, leb}
-use lib.ListN.{length, getD}
+use lib.Dec.{eqb}
+use lib.ListN.{getD}
 use Rattle.rules.specs.Keys.{meet}
 use Rattle.rules.specs.Partitions.{only}
 use Rattle.laws.specs.Cuts.{cut, getD-cut}
-use Rattle.tables.specs.Rows.{row-reads, row-keys}
 use Rattle.tables.specs.Tested.{row-clash, row-blocks, row-passes}
-use Rattle.tables.specs.Good.{GoodRow}
 use Rattle.certifying.specs.Parts.{part, RowAt}
 
 -- The words of a row that a test asks for: its partition set, its rt.

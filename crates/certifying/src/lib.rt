@@ -1,7 +1,6 @@
 // Certifying a newcomer: its keys read and written are tested against the kept rows and the waiting rows of the lent table, where they stand. Nothing is copied.
-ghost use Prim.Native.Nat.{ℕ, _+_, _-_, _≤_, _<_};
-ghost use mathlib.Core.Bool.{Bool, true};
-ghost use mathlib.Core.List.{List};
+ghost use Prim.Native.Nat.{_+_, _-_, _≤_, _<_};
+ghost use mathlib.Core.Bool.{true};
 ghost use mathlib.Core.Path.{_≡_};
 ghost use lib.ListN.{length};
 ghost use Rattle.rules.specs.Lists.{any};
@@ -16,11 +15,22 @@ ghost use Rattle.tables.specs.Good.{GoodRow, WaitingGood, KeptGood};
 ghost use Rattle.certifying.specs.Answers.{place-of};
 ghost use Rattle.certifying.specs.Places.{Reached};
 
-// Where the kept rows begin: behind the counters and 32 waiting rows.
-const KEPT: usize = 774;
+const KEPT: usize = 774; // where the kept rows begin: behind the counters and 32 waiting rows
 
-// 01, "The ledger's sizes": 64 commits are kept.
-const VERSIONS: u32 = 64;
+const VERSIONS: u32 = 64; // 01, "The ledger's sizes": so many commits are kept
+
+// What is asked of a row here, by its place in the row.
+const PARTITIONS: usize = 1; // its partition set
+
+const RT: usize = 3;
+
+const COUNT_READ: usize = 6; // how many keys it read
+
+const COUNT_WRITTEN: usize = 7; // how many it writes
+
+const READ: usize = 8; // the keys it read
+
+const WRITTEN: usize = 16; // the keys it writes
 
 // The place that a newcomer takes in the waiting list, if it may take one.
 pub enum Place {
@@ -35,8 +45,8 @@ fn row_blocks(book: &[u32], o: usize, reads: &[u32]) -> bool
     requires { ⌜ ascending (now reads) ≡ true ⌝ }
     ensures { λ r. ⌜ r ≡ row-blocks (now (reads .entry)) (cut o 24 (now (book .entry))) ⌝ }
 {
-    let n = book[o + 7] as usize;
-    keys::do_meet(reads, &book[o + 16..o + 16 + n])
+    let n = book[o + COUNT_WRITTEN] as usize;
+    keys::do_meet(reads, &book[o + WRITTEN..o + WRITTEN + n])
 }
 
 // "it read a key that the commit wrote; for a global one also, it writes a key that the commit read"
@@ -53,8 +63,8 @@ fn row_clashes(book: &[u32], o: usize, reads: &[u32], keys: &[u32], global: bool
     if !global {
         return false;
     }
-    let n = book[o + 6] as usize;
-    keys::do_meet(keys, &book[o + 8..o + 8 + n])
+    let n = book[o + COUNT_READ] as usize;
+    keys::do_meet(keys, &book[o + READ..o + READ + n])
 }
 
 // "is global, has DC <= rt, and has read no key that it writes": the row at o may be passed.
@@ -65,21 +75,29 @@ fn row_passes(book: &[u32], o: usize, own: u32, dc: u32, keys: &[u32]) -> bool
     requires { ⌜ ascending (now keys) ≡ true ⌝ }
     ensures { λ r. ⌜ r ≡ row-passes own dc (now (keys .entry)) (cut o 24 (now (book .entry))) ⌝ }
 {
-    if masks::is_local(book[o + 1], own) {
+    if masks::is_local(book[o + PARTITIONS], own) {
         return false;
     }
-    if book[o + 3] < dc {
+    if book[o + RT] < dc {
         return false;
     }
-    let n = book[o + 6] as usize;
-    !keys::do_meet(&book[o + 8..o + 8 + n], keys)
+    let n = book[o + COUNT_READ] as usize;
+    !keys::do_meet(&book[o + READ..o + READ + n], keys)
 }
 
-// "each commit of version st+1 to SC", the newest first
-pub fn clashes_with_commits(book: &[u32], sc: u32, st: u32, reads: &[u32], keys: &[u32], global: bool) -> bool
+// The newcomer clashes with a commit "of version st+1 to SC"; the newest is tested first.
+pub fn clashes_with_commits(
+    book: &[u32],
+    sc: u32,
+    st: u32,
+    reads: &[u32],
+    keys: &[u32],
+    global: bool,
+) -> bool
     requires { ⌜ book-words ≤ length (now book) ⌝ }
     requires { ⌜ KeptGood sc (now book) ⌝ }
-    requires { ⌜ (st ≤ sc) × (sc ≤ st + 64) ⌝ }
+    requires { ⌜ st ≤ sc ⌝ }
+    requires { ⌜ sc ≤ st + 64 ⌝ }
     requires { ⌜ ascending (now reads) ≡ true ⌝ }
     requires { ⌜ ascending (now keys) ≡ true ⌝ }
     ensures { λ r. ⌜ r ≡ any (row-clash global (now (reads .entry)) (now (keys .entry))) (tab (sc - st) (λ j. kept-words (now (book .entry)) (sc - j))) ⌝ }
@@ -88,7 +106,8 @@ pub fn clashes_with_commits(book: &[u32], sc: u32, st: u32, reads: &[u32], keys:
     let mut j: u32 = 0; // so many versions are tested
     while j < n {
         let version = sc - j;
-        if row_clashes(book, KEPT + tables::ROW * (version % VERSIONS) as usize, reads, keys, global) {
+        let o = KEPT + tables::ROW * (version % VERSIONS) as usize;
+        if row_clashes(book, o, reads, keys, global) {
             return true;
         }
         j += 1;
@@ -96,8 +115,14 @@ pub fn clashes_with_commits(book: &[u32], sc: u32, st: u32, reads: &[u32], keys:
     false
 }
 
-// "each waiting entry"
-pub fn clashes_with_waiting(book: &[u32], n: usize, reads: &[u32], keys: &[u32], global: bool) -> bool
+// "tested in the same two ways against every waiting entry"
+pub fn clashes_with_waiting(
+    book: &[u32],
+    n: usize,
+    reads: &[u32],
+    keys: &[u32],
+    global: bool,
+) -> bool
     requires { ⌜ book-words ≤ length (now book) ⌝ }
     requires { ⌜ n ≤ 32 ⌝ }
     requires { ⌜ WaitingGood n (now book) ⌝ }
@@ -107,7 +132,8 @@ pub fn clashes_with_waiting(book: &[u32], n: usize, reads: &[u32], keys: &[u32],
 {
     let mut i: usize = 0;
     while i < n {
-        if row_clashes(book, tables::COUNTERS + tables::ROW * i, reads, keys, global) {
+        let o = tables::COUNTERS + tables::ROW * i;
+        if row_clashes(book, o, reads, keys, global) {
             return true;
         }
         i += 1;
@@ -115,7 +141,7 @@ pub fn clashes_with_waiting(book: &[u32], n: usize, reads: &[u32], keys: &[u32],
     false
 }
 
-// "no entry before i writes a key it reads": one of the first n entries does.
+// One of the first n waiting entries "writes a key it reads".
 fn is_blocked(book: &[u32], n: usize, reads: &[u32]) -> bool
     requires { ⌜ book-words ≤ length (now book) ⌝ }
     requires { ⌜ n ≤ 32 ⌝ }
@@ -125,7 +151,8 @@ fn is_blocked(book: &[u32], n: usize, reads: &[u32]) -> bool
 {
     let mut i: usize = 0;
     while i < n {
-        if row_blocks(book, tables::COUNTERS + tables::ROW * i, reads) {
+        let o = tables::COUNTERS + tables::ROW * i;
+        if row_blocks(book, o, reads) {
             return true;
         }
         i += 1;
@@ -144,7 +171,8 @@ fn reach(book: &[u32], n: usize, own: u32, dc: u32, keys: &[u32]) -> usize
 {
     let mut i = n;
     while 0 < i {
-        if !row_passes(book, tables::COUNTERS + tables::ROW * (i - 1), own, dc, keys) {
+        let o = tables::COUNTERS + tables::ROW * (i - 1); // the row before the place
+        if !row_passes(book, o, own, dc, keys) {
             return i;
         }
         i -= 1;
@@ -153,7 +181,14 @@ fn reach(book: &[u32], n: usize, own: u32, dc: u32, keys: &[u32]) -> usize
 }
 
 // "the smallest place i, from 0 to the list's length, such that no entry before i writes a key it reads, and every entry from i on" may be passed
-pub fn earliest_place(book: &[u32], n: usize, own: u32, dc: u32, reads: &[u32], keys: &[u32]) -> Place
+pub fn earliest_place(
+    book: &[u32],
+    n: usize,
+    own: u32,
+    dc: u32,
+    reads: &[u32],
+    keys: &[u32],
+) -> Place
     requires { ⌜ book-words ≤ length (now book) ⌝ }
     requires { ⌜ n ≤ 32 ⌝ }
     requires { ⌜ own < 8 ⌝ }
