@@ -50,9 +50,10 @@ module _ (partitions own sc dc k n : ℕ) where
   pub counters-test : Counters partitions own sc dc k n → counters-fit partitions own sc dc k n ≡ true
   unfolding counters-fit
   counters-test h =
-      together (sizes-fit partitions own k) (leb dc most-dc ∷ leb n most-waiting ∷ leb (sc + n) dc ∷ [])
-      (sizes-test partitions own k (h .sizes),
-      (le-leb dc most-dc (h .dc-fits), (le-leb n most-waiting (h .list-fits), le-leb (sc + n) dc (h .sum-fits))))
+      together (sizes-fit partitions own k) (leb dc most-dc ∷ leb n most-waiting ∷ leb (sc + n) dc ∷ []) (
+        sizes-test partitions own k (h .sizes),
+        (le-leb dc most-dc (h .dc-fits), (le-leb n most-waiting (h .list-fits), le-leb (sc + n) dc (h .sum-fits))),
+      )
 
   -- Each way out of the test.
   pub sizes-fail : {answer : Bool} → answer ≡ sizes-fit partitions own k → not answer ≡ true → false ≡ counters-fit partitions own sc dc k n

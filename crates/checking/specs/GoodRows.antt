@@ -28,7 +28,8 @@ pub many-keys : (n : ℕ) (xs : List ℕ) → most-keys < n → false ≡ part-g
 unfolding part-good
 many-keys n xs many = rw (lt-ltb most-keys n many)
 
-pub few-keys : (n at : ℕ) (book : List ℕ) {bad : Bool} → n ≤ most-keys → bad ≡ bad-keys (take (at + n - at) (drop at book)) → not bad ≡ part-good n (cut at n book)
+pub few-keys : (n at : ℕ) (book : List ℕ) {bad : Bool} → n ≤ most-keys → bad ≡ bad-keys (take (at + n - at) (drop at book))
+    → not bad ≡ part-good n (cut at n book)
 unfolding part-good cut
 few-keys n at book few e =
     let count : at + n - at ≡ n = omega arith in
@@ -42,27 +43,32 @@ sets-good w = good-set (row-reads w) && good-set (row-keys w)
 set-part : (xs ys : List ℕ) (n : ℕ) → length xs ≡ n → (n ≤ most-keys → xs ≡ ys) → good-set xs ≡ part-good n ys
 unfolding good-set part-good
 set-part xs ys n long same =
-    split (ltb most-keys n)
-    (λ q. rw (long, q))
-    (λ q. rw (long, q, same (ltb-false most-keys n q)))
+    split (ltb most-keys n) (λ q. rw (long, q)) (λ q. rw (long, q, same (ltb-false most-keys n q)))
+
+-- The part whose number of keys stands in one word of a row, and whose keys stand from another on.
+abbrev pub part-of : List ℕ → ℕ → ℕ → ℕ → Bool
+part-of book o count from = part-good (getD book (o + count) 0) (cut (o + from) (getD book (o + count) 0) book)
 
 module _ (book : List ℕ) (o : ℕ) (room : o + 24 ≤ length book) where
-  reads-good : good-set (row-reads (cut o 24 book)) ≡ part-good (getD book (o + 6) 0) (cut (o + 8) (getD book (o + 6) 0) book)
+  reads-good : good-set (row-reads (cut o 24 book)) ≡ part-of book o 6 8
   reads-good =
-      let count : getD (cut o 24 book) 6 0 ≡ getD book (o + 6) 0 = getD-cut o 24 book 6 0 (omega arith) in
-      rw count at (set-part (row-reads (cut o 24 book)) (cut (o + 8) (getD (cut o 24 book) 6 0) book) (getD (cut o 24 book) 6 0) (length-row-reads (cut o 24 book)) (reads-part book o room))
+      let w = cut o 24 book in
+      let count : getD w 6 0 ≡ getD book (o + 6) 0 = getD-cut o 24 book 6 0 (omega arith) in
+      rw count at (set-part (row-reads w) (cut (o + 8) (getD w 6 0) book) (getD w 6 0) (length-row-reads w) (reads-part book o room))
 
-  written-good : good-set (row-keys (cut o 24 book)) ≡ part-good (getD book (o + 7) 0) (cut (o + 16) (getD book (o + 7) 0) book)
+  written-good : good-set (row-keys (cut o 24 book)) ≡ part-of book o 7 16
   written-good =
-      let count : getD (cut o 24 book) 7 0 ≡ getD book (o + 7) 0 = getD-cut o 24 book 7 0 (omega arith) in
-      rw count at (set-part (row-keys (cut o 24 book)) (cut (o + 16) (getD (cut o 24 book) 7 0) book) (getD (cut o 24 book) 7 0) (length-row-keys (cut o 24 book)) (keys-part book o room))
+      let w = cut o 24 book in
+      let count : getD w 7 0 ≡ getD book (o + 7) 0 = getD-cut o 24 book 7 0 (omega arith) in
+      rw count at (set-part (row-keys w) (cut (o + 16) (getD w 7 0) book) (getD w 7 0) (length-row-keys w) (keys-part book o room))
 
-  pub reads-fail : {answer : Bool} → answer ≡ part-good (getD book (o + 6) 0) (cut (o + 8) (getD book (o + 6) 0) book) → not answer ≡ true → false ≡ sets-good (cut o 24 book)
+  -- Each way out of the test of the two sets.
+  pub reads-fail : {answer : Bool} → answer ≡ part-of book o 6 8 → not answer ≡ true → false ≡ sets-good (cut o 24 book)
   unfolding sets-good
   reads-fail {answer} e failed = rw (reads-good ∙ (sym e ∙ not-true answer failed))
 
-  pub sets-decided : {answer last : Bool} → answer ≡ part-good (getD book (o + 6) 0) (cut (o + 8) (getD book (o + 6) 0) book) → not answer ≡ false
-      → last ≡ part-good (getD book (o + 7) 0) (cut (o + 16) (getD book (o + 7) 0) book) → last ≡ sets-good (cut o 24 book)
+  pub sets-decided : {answer last : Bool} → answer ≡ part-of book o 6 8 → not answer ≡ false → last ≡ part-of book o 7 16
+      → last ≡ sets-good (cut o 24 book)
   unfolding sets-good
   sets-decided {answer} {last} e passed d = rw (reads-good ∙ (sym e ∙ not-false answer passed)) (d ∙ sym written-good)
 

@@ -11,7 +11,7 @@ use Rattle.claims.specs.SoundParts.{Sound}
 use Rattle.tables.specs.Layout.{partitions-at, own-at, sc-at, dc-at, k-at, waiting-at}
 use Rattle.tables.specs.View.{clock-view, waiting-view, books-view, view}
 use Rattle.tables.specs.Good.{WaitingGood, KeptGood, waiting-good, kept-good}
-use Rattle.checking.specs.Whole.{facts, counters-hold}
+use Rattle.checking.specs.Whole.{state-facts, counters-hold}
 
 pub record SoundTables (book : List ℕ) (sums : List ℤ) : Type 0 where
   pub state : Sound (clock-view book) (waiting-view (getD book waiting-at 0) book sums) (books-view (getD book sc-at 0) book sums)
@@ -28,7 +28,7 @@ pub record SoundTables (book : List ℕ) (sums : List ℤ) : Type 0 where
 pub sound-tables : (book : List ℕ) (sums : List ℤ) → sound (view book sums) ≡ true → SoundTables book sums
 unfolding clock-view books-view
 sound-tables book sums whole =
-    let state = facts book sums whole in
+    let state = state-facts book sums whole in
     let counters = counters-hold book sums whole in
     record {
       state = state;

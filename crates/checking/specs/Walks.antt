@@ -32,26 +32,28 @@ module _ {A : Type 0} where
   unfolding rest
   rest-all n g = refl
 
-  -- Each passes a test.
-  pub record Each (f : A → Bool) (n : ℕ) (g : ℕ → A) (i : ℕ) : Type 0 where
+  -- Passing passes a test.
+  pub record Passing (f : A → Bool) (n : ℕ) (g : ℕ → A) (i : ℕ) : Type 0 where
     pub most : i ≤ n
     pub same : all f (tab n g) ≡ all f (rest n g i)
 
-  pub each-start : (f : A → Bool) (n : ℕ) (g : ℕ → A) → Each f n g 0
-  each-start f n g = record { most = omega arith; same = ap (all f) (sym (rest-all n g)) }
+  pub passing-start : (f : A → Bool) (n : ℕ) (g : ℕ → A) → Passing f n g 0
+  passing-start f n g = record { most = omega arith; same = ap (all f) (sym (rest-all n g)) }
 
-  pub each-next : {f : A → Bool} {n : ℕ} {g : ℕ → A} {i : ℕ} {answer : Bool} → Each f n g i → i < n → answer ≡ f (g i) → not answer ≡ false → Each f n g (i + 1)
-  each-next {f} {n} {g} {i} {answer} walk low e passed =
+  pub passing-next : {f : A → Bool} {n : ℕ} {g : ℕ → A} {i : ℕ} {answer : Bool} → Passing f n g i → i < n → answer ≡ f (g i) → not answer ≡ false
+      → Passing f n g (i + 1)
+  passing-next {f} {n} {g} {i} {answer} walk low e passed =
       let good : f (g i) ≡ true = sym e ∙ not-false answer passed in
       record { most = omega arith; same = walk .same ∙ (ap (all f) (rest-here n g i low) ∙ rw good refl) }
 
-  pub each-fails : {f : A → Bool} {n : ℕ} {g : ℕ → A} {i : ℕ} {answer : Bool} → Each f n g i → i < n → answer ≡ f (g i) → not answer ≡ true → false ≡ all f (tab n g)
-  each-fails {f} {n} {g} {i} {answer} walk low e failed =
+  pub passing-fails : {f : A → Bool} {n : ℕ} {g : ℕ → A} {i : ℕ} {answer : Bool} → Passing f n g i → i < n → answer ≡ f (g i) → not answer ≡ true
+      → false ≡ all f (tab n g)
+  passing-fails {f} {n} {g} {i} {answer} walk low e failed =
       let bad : f (g i) ≡ false = sym e ∙ not-true answer failed in
       sym (walk .same ∙ (ap (all f) (rest-here n g i low) ∙ rw bad refl))
 
-  pub each-end : {f : A → Bool} {n : ℕ} {g : ℕ → A} {i : ℕ} → Each f n g i → n ≤ i → true ≡ all f (tab n g)
-  each-end {f} {n} {g} {i} walk past = sym (walk .same ∙ ap (all f) (rest-none n g i past))
+  pub passing-end : {f : A → Bool} {n : ℕ} {g : ℕ → A} {i : ℕ} → Passing f n g i → n ≤ i → true ≡ all f (tab n g)
+  passing-end {f} {n} {g} {i} walk past = sym (walk .same ∙ ap (all f) (rest-none n g i past))
 
 -- A number is among them.
 pub record Among (x : ℕ) (n : ℕ) (g : ℕ → ℕ) (from i : ℕ) : Type 0 where
@@ -80,12 +82,14 @@ pub record Differ (n : ℕ) (g : ℕ → ℕ) (i : ℕ) : Type 0 where
 pub differ-start : (n : ℕ) (g : ℕ → ℕ) → Differ n g 0
 differ-start n g = record { most = omega arith; same = ap different (sym (rest-all n g)) }
 
-pub differ-next : {n : ℕ} {g : ℕ → ℕ} {i : ℕ} {answer : Bool} → Differ n g i → i < n → answer ≡ member (g i) (rest n g (i + 1)) → answer ≡ false → Differ n g (i + 1)
+pub differ-next : {n : ℕ} {g : ℕ → ℕ} {i : ℕ} {answer : Bool} → Differ n g i → i < n → answer ≡ member (g i) (rest n g (i + 1)) → answer ≡ false
+    → Differ n g (i + 1)
 unfolding different
 differ-next {n} {g} {i} {answer} walk low e alone =
     record { most = omega arith; same = walk .same ∙ (ap different (rest-here n g i low) ∙ rw (sym e ∙ alone) refl) }
 
-pub differ-fails : {n : ℕ} {g : ℕ → ℕ} {i : ℕ} {answer : Bool} → Differ n g i → i < n → answer ≡ member (g i) (rest n g (i + 1)) → answer ≡ true → false ≡ different (tab n g)
+pub differ-fails : {n : ℕ} {g : ℕ → ℕ} {i : ℕ} {answer : Bool} → Differ n g i → i < n → answer ≡ member (g i) (rest n g (i + 1)) → answer ≡ true
+    → false ≡ different (tab n g)
 unfolding different
 differ-fails {n} {g} {i} {answer} walk low e found =
     sym (walk .same ∙ (ap different (rest-here n g i low) ∙ rw (sym e ∙ found) refl))

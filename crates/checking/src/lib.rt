@@ -1,4 +1,6 @@
 // Is the state that two lent tables hold sound? Any words may stand in them: sizes are tested before the rows that they speak of are looked at.
+use tables::COUNTERS;
+use tables::ROW;
 ghost use Prim.Native.Nat.{_+_, _≤_, _<_, min};
 ghost use mathlib.Core.Bool.{Bool};
 ghost use mathlib.Core.Path.{_≡_};
@@ -13,14 +15,19 @@ ghost use Rattle.tables.specs.View.{view};
 ghost use Rattle.checking.specs.Walks.{rest};
 ghost use Rattle.checking.specs.GoodRows.{part-good, sets-good, row-good};
 ghost use Rattle.checking.specs.Counters.{counters-fit};
-ghost use Rattle.checking.specs.Whole.{identity-at, waiting-pass, kept-pass, identities-differ};
+ghost use Rattle.checking.specs.Whole.{identity-at, kept-pass, identities-pass, waiting-pass};
 
 // 01, "The ledger's sizes".
 const MOST_PARTITIONS: u32 = 8;
+
 const MOST_KEYS: u32 = 8;
+
 const MOST_WAITING: u32 = 32;
+
 const MOST_K: u32 = 31;
+
 const MOST_KEPT: u32 = 64;
+
 const MOST_DC: u32 = 4000000000;
 
 // The first kept row, behind the counters and 32 waiting rows.
@@ -62,7 +69,7 @@ fn counters_fit(partitions: u32, own: u32, sc: u32, dc: u32, k: u32, n: u32) -> 
 }
 
 // "every stored set is within its limits and ascending", of n keys that stand in the table from a place on. Where they are too many, none is looked at.
-fn is_good_part(book: &[u32], at: usize, n: u32) -> bool
+fn part_good(book: &[u32], at: usize, n: u32) -> bool
     requires { ⌜ at + 8 ≤ length (now book) ⌝ }
     ensures { λ r. ⌜ r ≡ part-good n (cut at n (now (book .entry))) ⌝ }
 {
@@ -78,10 +85,10 @@ fn row_sets_good(book: &[u32], o: usize) -> bool
     requires { ⌜ o + 24 ≤ length (now book) ⌝ }
     ensures { λ r. ⌜ r ≡ sets-good (cut o 24 (now (book .entry))) ⌝ }
 {
-    if !is_good_part(book, o + 8, book[o + 6]) {
+    if !part_good(book, o + 8, book[o + 6]) {
         return false;
     }
-    is_good_part(book, o + 16, book[o + 7])
+    part_good(book, o + 16, book[o + 7])
 }
 
 // Of one waiting row: its sets are good, its identity is nonzero, its partition set holds our own and none beyond the number opened, stored votes come
@@ -119,7 +126,7 @@ fn waiting_good(book: &[u32], n: u32, partitions: u32, own: u32, dc: u32) -> boo
     let waiting = n as usize;
     let mut i: usize = 0;
     while i < waiting {
-        if !row_entry_good(book, 6 + 24 * i, partitions, own, dc) {
+        if !row_entry_good(book, COUNTERS + ROW * i, partitions, own, dc) {
             return false;
         }
         i += 1;
@@ -146,7 +153,7 @@ fn kept_good(book: &[u32], sc: u32) -> bool
     let mut j: u32 = 0;
     while j < kept {
         let row = ((sc - j) % 64) as usize;
-        if !row_sets_good(book, KEPT + 24 * row) {
+        if !row_sets_good(book, KEPT + ROW * row) {
             return false;
         }
         j += 1;
@@ -161,7 +168,7 @@ fn is_among(book: &[u32], id: u32, from: usize, n: usize) -> bool
 {
     let mut i = from;
     while i < n {
-        if id == book[6 + 24 * i] {
+        if id == book[COUNTERS + ROW * i] {
             return true;
         }
         i += 1;
@@ -170,14 +177,14 @@ fn is_among(book: &[u32], id: u32, from: usize, n: usize) -> bool
 }
 
 // "waiting identities are .. different": none stands in a later row too.
-fn do_identities_differ(book: &[u32], n: u32) -> bool
+fn identities_differ(book: &[u32], n: u32) -> bool
     requires { ⌜ (book-words ≤ length (now book)) × (n ≤ 32) ⌝ }
-    ensures { λ r. ⌜ r ≡ identities-differ n (now (book .entry)) ⌝ }
+    ensures { λ r. ⌜ r ≡ identities-pass n (now (book .entry)) ⌝ }
 {
     let waiting = n as usize;
     let mut i: usize = 0;
     while i < waiting {
-        if is_among(book, book[6 + 24 * i], i + 1, waiting) {
+        if is_among(book, book[COUNTERS + ROW * i], i + 1, waiting) {
             return false;
         }
         i += 1;
@@ -202,7 +209,7 @@ pub fn is_sound(book: &[u32], sums: &[i64]) -> bool
     if !kept_good(book, sc) {
         return false;
     }
-    if !do_identities_differ(book, n) {
+    if !identities_differ(book, n) {
         return false;
     }
     waiting_good(book, n, partitions, own, dc)
