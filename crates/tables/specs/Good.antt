@@ -48,11 +48,11 @@ pub record GoodRow (w : List ℕ) : Type 0 where
   pub few-reads : getD w 6 0 ≤ most-keys
   pub few-keys : getD w 7 0 ≤ most-keys
 
-length-row-reads : (w : List ℕ) → length (row-reads w) ≡ getD w 6 0
+pub length-row-reads : (w : List ℕ) → length (row-reads w) ≡ getD w 6 0
 unfolding row-reads
 length-row-reads w = length-tab (getD w 6 0) (λ j. getD w (8 + j) 0)
 
-length-row-keys : (w : List ℕ) → length (row-keys w) ≡ getD w 7 0
+pub length-row-keys : (w : List ℕ) → length (row-keys w) ≡ getD w 7 0
 unfolding row-keys
 length-row-keys w = length-tab (getD w 7 0) (λ j. getD w (16 + j) 0)
 
