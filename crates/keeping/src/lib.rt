@@ -37,7 +37,7 @@ pub enum Found {
 fn kept_row(v: u32) -> usize
     ensures { λ r. ⌜ r ≡ kept-row v ⌝ }
 {
-    KEPT_ROWS + tables::ROW * ((v % KEPT) as usize)
+    KEPT_ROWS + tables::ROW * ((v % KEPT) as usize) // one of 64 rows
 }
 
 fn kept_amounts(v: u32) -> usize
@@ -64,7 +64,7 @@ fn fold(book: &[u32], sums: &mut [i64], v: u32)
     while 0 < j {
         j -= 1;
         let key = wide(book[row + KEYS + j]);
-        sums[key] = sums[amounts + j];
+        sums[key] = sums[amounts + j]; // under the writes stored before
     }
 }
 
@@ -74,7 +74,7 @@ fn evict(book: &[u32], sums: &mut [i64], sc: u32)
     requires { ⌜ sc < 4000000000 ⌝ }
     ensures { λ _. ⌜ now (sums .exit) ≡ evicted-sums (now (book .entry)) (now (sums .entry)) sc ⌝ }
 {
-    if sc < KEPT {
+    if sc < KEPT { // nothing is older yet
         return;
     }
     fold(book, sums, sc + 1);
@@ -140,7 +140,7 @@ pub fn read_at(book: &[u32], sums: &[i64], sc: u32, key: u32, st: u32) -> i64
     ensures { λ r. ⌜ r ≡ read-at key st (books-view sc (now (book .entry)) (now (sums .entry))) ⌝ }
 {
     let lowest = floor_of(sc);
-    let mut v = st;
+    let mut v = st; // not a version above the snapshot
     while lowest < v {
         let found = find_write(book, v, key);
         if let Found::At(j) = found {

@@ -60,17 +60,25 @@ mul-sums c = search needs
 slice-copy-out-sums : tie.Need-slice-copy-out-sums Inv-loop μ-loop
 slice-copy-out-sums c = search needs
 
-mul-t15 : tie.Need-mul-t15 Inv-loop μ-loop
-mul-t15 c = let low = fold-in _ _ (c .before .before .before .before .loop .inv) (c .before .before .before .before .before .before .before .before .before .before .pre) (c .before .before .before .loop-test .taken) (c .before .before .before .before .before .before .before .before .kept-row .ensures) (c .before .wide2 .ensures) in omega arith
-
 slice-set-from-sums : tie.Need-slice-set-from-sums Inv-loop μ-loop
-slice-set-from-sums c = fold-in _ _ (c .before .before .before .before .loop .inv) (c .before .before .before .before .before .before .before .before .before .before .pre) (c .before .before .before .loop-test .taken) (c .before .before .before .before .before .before .before .before .kept-row .ensures) (c .before .wide2 .ensures)
+slice-set-from-sums c =
+    let turn = c .before .before .before in
+    let row = turn .before .before .before .before .before .kept-row .ensures in
+    fold-in _ _ (turn .before .loop .inv) (turn .before .before .before .before .before .before .before .pre) (turn .loop-test .taken) row (c .before .wide2 .ensures)
+
+mul-t15 : tie.Need-mul-t15 Inv-loop μ-loop
+mul-t15 c = let low = slice-set-from-sums c in omega arith
 
 loop-less : tie.Need-loop-less Inv-loop μ-loop
 loop-less c = search needs
 
 loop-again : tie.Need-loop-again Inv-loop μ-loop
-loop-again c = fold-step _ _ (c .before .before .before .before .loop .inv) (c .before .before .before .before .before .before .before .before .before .before .pre) (c .before .before .before .loop-test .taken) (c .before .before .before .before .before .before .before .before .kept-row .ensures) (c .before .wide2 .ensures) _ _ (c .before .before .before .before .before .before .before .kept-amounts .ensures) (toZ-ofZ (record { sfits = c .sums .given }))
+loop-again c =
+    let turn = c .before .before .before in
+    let row = turn .before .before .before .before .before .kept-row .ensures in
+    let amounts = turn .before .before .before .before .kept-amounts .ensures in
+    let pre = turn .before .before .before .before .before .before .before .pre in
+    fold-step _ _ (turn .before .loop .inv) pre (turn .loop-test .taken) row (c .before .wide2 .ensures) _ _ amounts (toZ-ofZ (record { sfits = c .sums .given }))
 
 same-length : tie.Need-same-length Inv-loop μ-loop
 same-length c = c .before .loop .inv .long

@@ -32,7 +32,11 @@ same-length-2 : tie.Need-same-length-2
 same-length-2 c = search needs
 
 returns : tie.Need-returns
-returns c = (row-kept _ _ _ (c .before .before .before .before .before .before .before .kept-row .ensures) (c .before .before .before .before .before .before .move-up .ensures), sums-kept _ _ _ _ (c .before .before .before .before .before .before .before .before .before .before .evict .ensures) (c .before .before .kept-amounts .ensures) (c .before .move-sums-up .ensures))
+returns c =
+    let moved = c .before .before .before .before .before .before in
+    let evicted = moved .before .before .before .before .evict .ensures in
+    let sums = sums-kept _ _ _ _ evicted (c .before .before .kept-amounts .ensures) (c .before .move-sums-up .ensures) in
+    (row-kept _ _ _ (moved .before .kept-row .ensures) (moved .move-up .ensures), sums)
 
 pub keep-spec : {M : Type 1} → statement M
 keep-spec =

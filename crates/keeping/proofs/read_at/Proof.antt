@@ -1,4 +1,5 @@
 -- No version above the one looked at, and at most st, writes the key: `Reading` of `specs/Reading.antt`. The measure is the version.
+use Prim.Native.Nat.{_<_}
 use mathlib.Core.Path.{_∙_}
 use borrow.Author.Needs.{needs}
 use mir.Facts.{toZ-ofZ}
@@ -19,7 +20,9 @@ loop-holds : tie.Need-loop-holds Inv-loop μ-loop
 loop-holds c = read-start _ _ _ _ _ _ (c .floor-of .ensures) (c .before .before .pre .1 .1 .1 .1 .0) (c .before .before .pre .1 .1 .1 .1 .1)
 
 find-write-requires : tie.Need-find-write-requires Inv-loop μ-loop
-find-write-requires c κs = (c .before .before .before .before .pre .0, read-good (c .before .loop .inv) (c .loop-test .taken) (c .before .before .before .before .pre .1 .1 .0) (c .before .before .before .before .pre .1 .1 .1 .1 .0))
+find-write-requires c κs =
+    let pre = c .before .before .before .before .pre in
+    (pre .0, read-good (c .before .loop .inv) (c .loop-test .taken) (pre .1 .1 .0) (pre .1 .1 .1 .1 .0))
 
 enum-known-found : tie.Need-enum-known-found Inv-loop μ-loop
 enum-known-found c = search needs
@@ -27,17 +30,29 @@ enum-known-found c = search needs
 kept-amounts-requires : tie.Need-kept-amounts-requires Inv-loop μ-loop
 kept-amounts-requires c κs = search needs
 
+-- the place found is one of at most 8
+found-low : (c : tie.After-kept-amounts Inv-loop μ-loop) → c .before .before .found .given .0 .0 < 8
+found-low c =
+    let turn = c .before .before .before .before .before in
+    let pre = turn .before .before .before .before .pre in
+    read-in (turn .before .loop .inv) (turn .loop-test .taken) (pre .1 .1 .0) (pre .1 .1 .1 .1 .0) (c .before .before .found .given .1) (c .before .before .before .before .find-write .ensures)
+
 add-result : tie.Need-add-result Inv-loop μ-loop
-add-result c = let few = read-in (c .before .before .before .before .before .before .loop .inv) (c .before .before .before .before .before .loop-test .taken) (c .before .before .before .before .before .before .before .before .before .pre .1 .1 .0) (c .before .before .before .before .before .before .before .before .before .pre .1 .1 .1 .1 .0) (c .before .before .found .given .1) (c .before .before .before .before .find-write .ensures) in search needs
+add-result c = let few = found-low c in search needs
 
 mul-result : tie.Need-mul-result Inv-loop μ-loop
-mul-result c = let few = read-in (c .before .before .before .before .before .before .loop .inv) (c .before .before .before .before .before .loop-test .taken) (c .before .before .before .before .before .before .before .before .before .pre .1 .1 .0) (c .before .before .before .before .before .before .before .before .before .pre .1 .1 .1 .1 .0) (c .before .before .found .given .1) (c .before .before .before .before .find-write .ensures) in search needs
+mul-result c = let few = found-low c in search needs
 
 shared-slice-copy-out-result : tie.Need-shared-slice-copy-out-result Inv-loop μ-loop
-shared-slice-copy-out-result c = let few = read-in (c .before .before .before .before .before .before .loop .inv) (c .before .before .before .before .before .loop-test .taken) (c .before .before .before .before .before .before .before .before .before .pre .1 .1 .0) (c .before .before .before .before .before .before .before .before .before .pre .1 .1 .1 .1 .0) (c .before .before .found .given .1) (c .before .before .before .before .find-write .ensures) in search needs
+shared-slice-copy-out-result c = let few = found-low c in search needs
 
 returns : tie.Need-returns Inv-loop μ-loop
-returns c = toZ-ofZ (record { sfits = c .result .given }) ∙ read-hit (c .before .before .before .before .before .before .before .loop .inv) (c .before .before .before .before .before .before .loop-test .taken) (c .before .before .before .before .before .before .before .before .before .before .pre .1 .1 .0) (c .before .before .before .before .before .before .before .before .before .before .pre .1 .1 .1 .1 .0) (c .before .before .before .found .given .1) (c .before .before .before .before .before .find-write .ensures) _ (c .before .kept-amounts .ensures)
+returns c =
+    let turn = c .before .before .before .before .before .before in
+    let pre = turn .before .before .before .before .pre in
+    let answered = c .before .before .before .before .before .find-write .ensures in
+    toZ-ofZ (record { sfits = c .result .given })
+    ∙ read-hit (turn .before .loop .inv) (turn .loop-test .taken) (pre .1 .1 .0) (pre .1 .1 .1 .1 .0) (c .before .before .before .found .given .1) answered _ (c .before .kept-amounts .ensures)
 
 enum-told : tie.Need-enum-told Inv-loop μ-loop
 enum-told c = search needs
