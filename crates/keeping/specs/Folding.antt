@@ -1,22 +1,20 @@
 -- A kept row's writes folded into the values, from the last write to the first: the rule `written` read from behind.
 use Prim.Native.Nat.{ℕ, suc, _+_, _-_, _*_, _%_, _≤_, _<_}
-use mathlib.Core.Bool.{cond}
 use mathlib.Core.List.{List, [], _∷_, _++_}
 use mathlib.Core.Path.{_≡_, refl, sym, ap, ap₂, _∙_, subst}
 use native.Mathlib.Omega.{arith}
 use borrow.Author.Tests.{le-leb, lt-leb}
-use lib.Dec.{leb}
 use lib.IntN.{ℤ, pos}
 use lib.ListN.{length, take, drop, getD, set, length-set, drop-of-length-le, take-append-drop}
 use lib.Seq.{drop-cons, set-append-left, length-take-le}
-use Rattle.rules.specs.Sizes.{keys, most-kept, most-keys}
+use Rattle.rules.specs.Sizes.{keys, most-kept}
 use Rattle.rules.specs.Ledger.{Write}
 use Rattle.rules.specs.Closing.{written}
 use Rattle.laws.specs.Cuts.{cut, put, getD-cut, length-cut, getD-put-above}
 use Rattle.laws.specs.Tabs.{tab, length-tab, getD-tab}
 use Rattle.claims.specs.SoundKept.{length-written}
 use Rattle.tables.specs.Layout.{book-words, sums-words, waiting-row, waiting-amounts, kept-row, kept-amounts}
-use Rattle.tables.specs.Rows.{row-keys, row-writes}
+use Rattle.tables.specs.Rows.{row-writes}
 use Rattle.tables.specs.View.{kept-words, values-view}
 use Rattle.tables.specs.Keeping.{folded-sums, evicted-sums, kept-book, kept-sums, committed-book, committed-sums}
 use Rattle.tables.specs.Good.{GoodRow, KeptGood}

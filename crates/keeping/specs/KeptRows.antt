@@ -6,7 +6,7 @@ use native.Mathlib.Omega.{arith}
 use lib.ListN.{length, take, drop, getD}
 use Rattle.rules.specs.Sizes.{keys}
 use Rattle.laws.specs.Cuts.{cut, getD-cut}
-use Rattle.laws.specs.Tabs.{tab, length-tab, getD-tab}
+use Rattle.laws.specs.Tabs.{length-tab, getD-tab}
 use Rattle.tables.specs.Layout.{book-words, kept-row}
 use Rattle.tables.specs.Rows.{row-keys}
 use Rattle.tables.specs.View.{kept-words}

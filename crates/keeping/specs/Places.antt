@@ -1,6 +1,6 @@
 -- Where a key stands in a list of keys, and that this is where a row's writes put its value.
 use Prim.Native.Nat.{ℕ, zero, suc, _+_, _≤_, _<_}
-use mathlib.Core.Bool.{true, false, cond}
+use mathlib.Core.Bool.{cond}
 use mathlib.Core.List.{List, [], _∷_}
 use mathlib.Core.Option.{Option, none, some}
 use mathlib.Core.Path.{_≡_, refl, sym, ap, _∙_}
@@ -10,7 +10,6 @@ use lib.Dec.{eqb}
 use lib.IntN.{ℤ, pos}
 use lib.ListN.{length, drop, getD, drop-of-length-le}
 use lib.Seq.{drop-cons}
-use Rattle.rules.specs.Ledger.{Write}
 use Rattle.rules.specs.Read.{put-at}
 use Rattle.laws.specs.Tests.{split}
 use Rattle.laws.specs.Tabs.{tab, tab-same}

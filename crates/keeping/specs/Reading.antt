@@ -1,18 +1,18 @@
 -- The value of a key at a snapshot, looked for from the snapshot's version down to the floor: the rule's newest value among the commits from there on.
 use Prim.Native.Nat.{ℕ, suc, _+_, _-_, _≤_, _<_, min}
-use mathlib.Core.List.{List, [], _∷_}
-use mathlib.Core.Option.{Option, none, some}
-use mathlib.Core.Path.{_≡_, refl, sym, ap, ap₂, _∙_}
+use mathlib.Core.List.{List, _∷_}
+use mathlib.Core.Option.{Option, some}
+use mathlib.Core.Path.{_≡_, sym, ap, ap₂, _∙_}
 use native.Mathlib.Omega.{arith}
 use lib.IntN.{ℤ, pos}
-use lib.ListN.{length, drop, getD}
+use lib.ListN.{getD}
 use Rattle.rules.specs.Sizes.{keys, most-kept, floor}
 use Rattle.rules.specs.Ledger.{Commit}
-use Rattle.rules.specs.Read.{put-at, else-value, newest-value, read-at}
+use Rattle.rules.specs.Read.{else-value, newest-value, read-at}
 use Rattle.laws.specs.Cuts.{cut, getD-cut}
 use Rattle.laws.specs.Tabs.{tab, tab-as, tab-same, drop-tab}
 use Rattle.tables.specs.Layout.{kept-amounts}
-use Rattle.tables.specs.Rows.{row-keys, row-writes, row-commit}
+use Rattle.tables.specs.Rows.{row-keys, row-commit}
 use Rattle.tables.specs.View.{kept-words, commit-at, kept-view, values-view, books-view}
 use Rattle.tables.specs.Good.{GoodRow, KeptGood}
 use Rattle.keeping.specs.declared.Found.{Found}

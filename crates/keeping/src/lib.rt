@@ -7,7 +7,7 @@ ghost use Rattle.rules.specs.Read.{read-at};
 ghost use Rattle.tables.specs.Layout.{book-words, sums-words, kept-row, kept-amounts};
 ghost use Rattle.tables.specs.Rows.{row-keys};
 ghost use Rattle.tables.specs.View.{kept-words, books-view};
-ghost use Rattle.tables.specs.Keeping.{kept-book, kept-sums, folded-sums, evicted-sums, committed-book, committed-sums};
+ghost use Rattle.tables.specs.Keeping.{folded-sums, evicted-sums, committed-book, committed-sums};
 ghost use Rattle.tables.specs.Good.{GoodRow, KeptGood};
 ghost use Rattle.keeping.specs.Places.{seek, found-of};
 ghost use Rattle.keeping.specs.Folding.{FoldFits};
