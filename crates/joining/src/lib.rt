@@ -5,7 +5,7 @@ ghost use mathlib.Core.Path.{_≡_};
 ghost use lib.ListN.{length, getD, set};
 ghost use Rattle.rules.specs.Partitions.{with-partition};
 ghost use Rattle.laws.specs.Cuts.{put};
-ghost use Rattle.tables.specs.Layout.{book-words, sums-words, waiting-row, waiting-amounts};
+ghost use Rattle.tables.specs.Layout.{book-words, sums-words};
 ghost use Rattle.tables.specs.NewRow.{first-words, with-row};
 ghost use Rattle.tables.specs.Joined.{gap-book, gap-sums, joined-book, joined-sums};
 ghost use Rattle.tables.specs.TakenOff.{off-book, off-sums};
