@@ -1,7 +1,7 @@
 -- The counters' part of soundness: sizes that fit, DC within its limit, at most 32 waiting, and SC plus waiting at most DC. As a test, and as facts.
 use Prim.Native.Nat.{ℕ, _+_, _-_, _≤_, _<_}
 use mathlib.Core.Bool.{Bool, true, false, not, _&&_}
-use mathlib.Core.List.{List, [], _∷_}
+use mathlib.Core.List.{[], _∷_}
 use mathlib.Core.Path.{_≡_, refl, sym, _∙_}
 use borrow.Author.Tests.{not-false, lt-ltb, le-leb, leb-true}
 use native.Mathlib.Omega.{arith}

@@ -3,7 +3,7 @@
 use Prim.Native.Nat.{ℕ, suc, _+_, _≤_, _<_}
 use mathlib.Core.Bool.{Bool, true, false, not}
 use mathlib.Core.List.{List, [], _∷_}
-use mathlib.Core.Path.{_≡_, refl, sym, ap, ap₂, _∙_}
+use mathlib.Core.Path.{_≡_, refl, sym, ap, _∙_}
 use borrow.Author.Tests.{eq-eqb, ne-eqb, not-true, not-false}
 use native.Mathlib.Numerals.{add-one}
 use native.Mathlib.Omega.{arith}
@@ -28,11 +28,11 @@ module _ {A : Type 0} where
   unfolding rest
   rest-none n g i past = let beyond : length (tab n g) ≤ i = rw (length-tab n g) past in drop-of-length-le (tab n g) beyond
 
-  pub rest-all : (n : ℕ) (g : ℕ → A) → rest n g 0 ≡ tab n g
+  rest-all : (n : ℕ) (g : ℕ → A) → rest n g 0 ≡ tab n g
   unfolding rest
   rest-all n g = refl
 
-  -- Passing passes a test.
+  -- Each passes a test.
   pub record Passing (f : A → Bool) (n : ℕ) (g : ℕ → A) (i : ℕ) : Type 0 where
     pub most : i ≤ n
     pub same : all f (tab n g) ≡ all f (rest n g i)

@@ -1,6 +1,6 @@
 -- The rules' soundness of the state that the tables hold, by tests on the tables alone: of the counters, of the kept rows, of the identities, of the
 -- waiting rows. That the kept commits number the smaller of SC and 64, and the values 1,024, holds of any tables that are long enough.
-use Prim.Native.Nat.{ℕ, _+_, _-_, _≤_, min}
+use Prim.Native.Nat.{ℕ, _-_, _≤_, min}
 use mathlib.Core.Bool.{Bool, true, false, not}
 use mathlib.Core.List.{List}
 use mathlib.Core.Path.{_≡_, sym, ap, _∙_}

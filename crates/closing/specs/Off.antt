@@ -18,8 +18,9 @@ use Rattle.tables.specs.Keeping.{committed-book, committed-sums}
 use Rattle.tables.specs.Tested.{row-ready, row-commits, ready-row, commits-row}
 use Rattle.tables.specs.Good.{WaitingGood, KeptGood, waiting-entry-good, kept-good}
 use Rattle.tables.specs.Bytes.{ByteSets, entry-bytes}
-use Rattle.tables.specs.Closed.{Desk, Fit, head-of, entry-words, kept-desk, told-desk, off-desk, head-off, head-off-fit, close-desk}
-use Rattle.tables.specs.Settled.{closed-desk}
+use Rattle.tables.specs.Closed.{Desk, Fit, head-of, entry-words, kept-desk, told-desk, off-desk, head-off, head-off-fit, head-off-waiting, close-desk}
+use Rattle.tables.specs.Counters.{with-counters}
+use Rattle.tables.specs.Settled.{closed-desk, settled-book}
 use Rattle.closing.specs.Heads.{head-word}
 
 -- The head's tests, on its words.
@@ -36,7 +37,7 @@ unfolding entry-at row-entry row-transaction waiting-words
 head-identity d = getD-cut 6 24 (d .book) 0 0 (omega arith)
 
 -- The two ways.
-pub off-committed : (c : Clock) (n : ℕ) (d : Desk) → row-commits (c .own) (waiting-words (d .book) 0) ≡ true
+off-committed : (c : Clock) (n : ℕ) (d : Desk) → row-commits (c .own) (waiting-words (d .book) 0) ≡ true
     → _≡_ {A = Desk} (record {
       sc = d .sc + 1;
       waiting = n;
@@ -48,7 +49,7 @@ pub off-committed : (c : Clock) (n : ℕ) (d : Desk) → row-commits (c .own) (w
 unfolding head-off off-desk kept-desk told-desk entry-words finish books-view
 off-committed c n d q = rw (head-commits c d ∙ q, head-identity d)
 
-pub off-aborted : (c : Clock) (n : ℕ) (d : Desk) → row-commits (c .own) (waiting-words (d .book) 0) ≡ false
+off-aborted : (c : Clock) (n : ℕ) (d : Desk) → row-commits (c .own) (waiting-words (d .book) 0) ≡ false
     → _≡_ {A = Desk} (record {
       sc = d .sc;
       waiting = n;
@@ -59,6 +60,22 @@ pub off-aborted : (c : Clock) (n : ℕ) (d : Desk) → row-commits (c .own) (wai
     }) (head-off c n d)
 unfolding head-off off-desk kept-desk told-desk entry-words finish books-view
 off-aborted c n d q = rw (head-commits c d ∙ q, head-identity d)
+
+-- The same, of what each call left.
+pub left-committed : (c : Clock) (n : ℕ) (d : Desk) {kept-book after-book : List ℕ} {kept-sums after-sums : List ℤ} {told : List ℕ}
+    → row-commits (c .own) (waiting-words (d .book) 0) ≡ true
+    → told ≡ put (d .finishes) (2 * d .finished) (getD (d .book) 6 0 ∷ (d .sc + 1) ∷ [])
+    → kept-book ≡ committed-book (d .book) (d .sc) → kept-sums ≡ committed-sums (d .book) (d .sums) (d .sc)
+    → after-book ≡ off-book kept-book n → after-sums ≡ off-sums kept-sums n
+    → _≡_ {A = Desk} (record { sc = d .sc + 1; waiting = n; finished = d .finished + 1; book = after-book; sums = after-sums; finishes = told }) (head-off c n d)
+left-committed c n d q told kept kept-sums off off-sums = rw (told, off, off-sums, kept, kept-sums) (off-committed c n d q)
+
+pub left-aborted : (c : Clock) (n : ℕ) (d : Desk) {after-book : List ℕ} {after-sums : List ℤ} {told : List ℕ}
+    → row-commits (c .own) (waiting-words (d .book) 0) ≡ false
+    → told ≡ put (d .finishes) (2 * d .finished) (getD (d .book) 6 0 ∷ 0 ∷ [])
+    → after-book ≡ off-book (d .book) n → after-sums ≡ off-sums (d .sums) n
+    → _≡_ {A = Desk} (record { sc = d .sc; waiting = n; finished = d .finished + 1; book = after-book; sums = after-sums; finishes = told }) (head-off c n d)
+left-aborted c n d q told off off-sums = rw (told, off, off-sums) (off-aborted c n d q)
 
 -- Closing, one way out after the other.
 pub closed-none : (c : Clock) (d : Desk) → d .waiting ≡ 0 → d ≡ closed-desk c d
@@ -103,6 +120,7 @@ pub record FitNumbers (c : Clock) (d : Desk) : Type 0 where
   pub own-fits : c .own < 8
   pub list-fits : d .waiting ≤ 32
   pub sc-fits : d .sc + d .waiting ≤ 4000000000
+  pub told-fits : d .finished + d .waiting ≤ 32
 
 pub fit-numbers : (c : Clock) (d : Desk) → Fit c d → FitNumbers c d
 unfolding books-view
@@ -113,4 +131,23 @@ fit-numbers c d h =
     let sum = h .sound .sum-fits in
     let dc = h .sound .dc-fits in
     let n = length-waiting (d .waiting) (d .book) (d .sums) in
-    record { own-fits = omega arith; list-fits = omega arith; sc-fits = omega arith }
+    record { own-fits = omega arith; list-fits = omega arith; sc-fits = omega arith; told-fits = h .few-told }
+
+-- One fewer waits behind a head that is taken off.
+pub off-falls : (c : Clock) (d next : Desk) (m : ℕ) → d .waiting ≡ m → (d .waiting ≡ 0 → ⊥) → next ≡ head-off c (d .waiting - 1) d → next .waiting < m
+off-falls c d next m is-m some is-off =
+    let left : next .waiting ≡ d .waiting - 1 = ap (λ (e : Desk). e .waiting) is-off ∙ head-off-waiting c (d .waiting - 1) d in
+    omega arith
+
+-- An event settled: what closing and then storing the counters leave.
+pub settles : (c : Clock) (d r : Desk) {after : List ℕ} → r ≡ closed-desk c d → after ≡ put (r .book) 2 (r .sc ∷ c .dc ∷ c .k ∷ r .waiting ∷ [])
+    → (r .finished ≡ closed-desk c d .finished)
+    × ((after ≡ settled-book c d) × ((r .sums ≡ closed-desk c d .sums) × (r .finishes ≡ closed-desk c d .finishes)))
+unfolding settled-book with-counters
+settles c d r is-closed stored = (
+  ap (λ (e : Desk). e .finished) is-closed,
+  (
+    stored ∙ ap (λ (e : Desk). put (e .book) 2 (e .sc ∷ c .dc ∷ c .k ∷ e .waiting ∷ [])) is-closed,
+    (ap (λ (e : Desk). e .sums) is-closed, ap (λ (e : Desk). e .finishes) is-closed),
+  ),
+)

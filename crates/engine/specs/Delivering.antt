@@ -212,6 +212,11 @@ module _ (identity set st : ℕ) (reads keys : List ℕ) (amounts : List ℤ) (b
   desk-room (abort reason) = let open-list = ok .list-open in let room = h .room in omega arith
   desk-room (join i) = let open-list = ok .list-open in let room = h .room in omega arith
 
+  desk-few : (f : Fate) → desk-at f .finished + desk-at f .waiting ≤ 32
+  unfolding delivery-desk
+  desk-few (abort reason) = let open-list = ok .list-open in omega arith
+  desk-few (join i) = let open-list = ok .list-open in omega arith
+
   desk-untold : (f : Fate) → desk-at f .finished ≡ 0
   unfolding delivery-desk
   desk-untold (abort reason) = refl
@@ -230,6 +235,7 @@ module _ (identity set st : ℕ) (reads keys : List ℕ) (amounts : List ℤ) (b
           long = rw (desk-length f q) (h .long);
           long-sums = rw (desk-length-sums f q) (h .long-sums);
           room = desk-room f;
+          few-told = desk-few f;
           sound = desk-sound f q;
         };
         untold = desk-untold f;

@@ -2,6 +2,4 @@ pub mod Answers
 pub mod Delivering
 pub mod Voting
 pub mod Operations
-pub mod Numbers
-pub mod Indexed
 pub mod Meanings

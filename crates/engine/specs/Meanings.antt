@@ -35,9 +35,10 @@ use Rattle.engine.specs.declared.Snapshot.{Snapshot}
 use Rattle.engine.specs.declared.Opening.the-variants.{Opened}
 use Rattle.engine.specs.Delivering.{Accepting, delivery-means}
 use Rattle.engine.specs.Voting.{Lent, change-means, vote-means}
-use Rattle.engine.specs.Operations.{number-of, short, lent-number, left, delivery-number, delivered-on, delivering, vote-number, voted-on, voting, index-of, waiting-identities, change-number, changed-on, changing, read-number, reading, opening-number, opened}
-use Rattle.engine.specs.Indexed.{row-of, vote-waits}
-use Rattle.engine.specs.Numbers.{Clear, clear, lent-number-is, unrefused}
+use Rattle.refusing.specs.Operands.{number-of, short, lent-number, delivery-number, vote-number, index-of, waiting-identities, change-number, read-number, opening-number}
+use Rattle.engine.specs.Operations.{left, delivered-on, delivering, voted-on, voting, changed-on, changing, reading, opened}
+use Rattle.refusing.specs.Indexed.{row-of, vote-waits}
+use Rattle.refusing.specs.Numbers.{Clear, clear, lent-number-is, unrefused}
 
 -- Tables that are long enough.
 pub long-enough : (book : List ℕ) (sums : List ℤ) → book-words ≤ length book → sums-words ≤ length sums → short book sums ≡ false

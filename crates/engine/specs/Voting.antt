@@ -73,7 +73,7 @@ module _ (book : List ℕ) (sums : List ℤ) (fin : List ℕ) (h : Lent book sum
       let room = h .room in
       let f = few in
       record {
-        fit = record { long = h .long; long-sums = h .long-sums; room = omega arith; sound = changed-sound k (view book sums) q (h .sound) };
+        fit = record { long = h .long; long-sums = h .long-sums; room = omega arith; few-told = omega arith; sound = changed-sound k (view book sums) q (h .sound) };
         untold = refl;
         partitions = refl;
         own = refl;
@@ -134,6 +134,7 @@ module _ (book : List ℕ) (sums : List ℤ) (fin : List ℕ) (h : Lent book sum
             long = rw (voted-length book i p agrees) (h .long);
             long-sums = h .long-sums;
             room = omega arith;
+            few-told = omega arith;
             sound = rw (voted-list, voted-books (getD book 2 0)) before-closing;
           };
           untold = refl;

@@ -98,6 +98,7 @@ pub record Fit (c : Clock) (d : Desk) : Type 0 where
   pub long : book-words ≤ length (d .book)
   pub long-sums : sums-words ≤ length (d .sums)
   pub room : 2 * (d .finished + d .waiting) ≤ length (d .finishes)
+  pub few-told : d .finished + d .waiting ≤ 32
   pub sound : Sound c (waiting-view (d .waiting) (d .book) (d .sums)) (books-view (d .sc) (d .book) (d .sums))
 
 -- The head of a desk on which some wait.
@@ -183,6 +184,7 @@ module _ (c : Clock) (n : ℕ) (d : Desk) (one : d .waiting ≡ suc n) (h : Fit 
         long = rw length-head-off (h .long);
         long-sums = rw length-head-off-sums (h .long-sums);
         room = let room = h .room in rw (length-head-off-finishes, head-off-waiting c n d, head-off-finished c n d) (omega arith);
+        few-told = let few-told = h .few-told in rw (head-off-waiting c n d, head-off-finished c n d) (omega arith);
         sound = rw (head-off-waiting c n d) head-off-sound;
       }
 

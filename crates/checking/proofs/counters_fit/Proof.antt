@@ -1,5 +1,8 @@
 -- `checking::counters_fit` meets its contract: each counter outside its limit refuses all; where none is, SC decides, against DC less those that wait. Assumes nothing.
+use Prim.Native.Nat.{_<_}
 use borrow.Author.Needs.{needs}
+use native.Mathlib.Omega.{arith}
+use Rattle.rules.specs.Sizes.{most-waiting}
 use Rattle.checking.specs.Counters.{sizes-fail, dc-beyond, many-waiting, few-delivered, counters-decided}
 use Rattle.checking.proofs.counters_fit.Statement.{statement}
 use Rattle.checking.proofs.counters_fit.Tie as tie
@@ -14,7 +17,9 @@ returns-2 : tie.Need-returns-2
 returns-2 c = dc-beyond _ _ _ _ _ _ (c .if2 .taken)
 
 returns-3 : tie.Need-returns-3
-returns-3 c = many-waiting _ _ _ _ _ _ (c .if3 .taken)
+returns-3 c =
+    let many : most-waiting < c .before .before .before .before .args .n = omega arith in
+    many-waiting _ _ _ _ _ _ many
 
 returns-4 : tie.Need-returns-4
 returns-4 c = few-delivered _ _ _ _ _ _ (c .if4 .taken)

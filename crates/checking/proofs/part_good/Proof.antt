@@ -1,11 +1,16 @@
 -- `checking::part_good` meets its contract: more than 8 keys are no good set, and up to 8 stand in the table as a part of it. Assumes nothing.
+use Prim.Native.Nat.{_<_}
 use borrow.Author.Needs.{needs}
+use native.Mathlib.Omega.{arith}
+use Rattle.rules.specs.Sizes.{most-keys}
 use Rattle.checking.specs.GoodRows.{many-keys, few-keys}
 use Rattle.checking.proofs.part_good.Statement.{statement}
 use Rattle.checking.proofs.part_good.Tie as tie
 
 returns : tie.Need-returns
-returns c = many-keys _ _ (c .if1 .taken)
+returns c =
+    let many : most-keys < c .before .before .args .n = omega arith in
+    many-keys _ _ many
 
 add-behind : tie.Need-add-behind
 add-behind c = search needs

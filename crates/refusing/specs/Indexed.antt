@@ -21,7 +21,7 @@ use Rattle.tables.specs.Layout.{waiting-row}
 use Rattle.tables.specs.Rows.{row-transaction, row-entry}
 use Rattle.tables.specs.View.{waiting-words, entry-at, waiting-view, view}
 use Rattle.tables.specs.Tested.{any-tab-same}
-use Rattle.engine.specs.Operations.{index-of, waiting-identities}
+use Rattle.refusing.specs.Operands.{index-of, waiting-identities}
 
 -- A list that has a number has it at its index.
 pub record Indexed (x : ℕ) (ys : List ℕ) (i : ℕ) : Type 0 where

@@ -14,7 +14,7 @@ use Rattle.rules.specs.Events.{Event, delivery, vote, change, read, snapshot}
 use Rattle.rules.specs.Soundness.{sound}
 use Rattle.rules.specs.Refusals.{Check, first-of, checks, delivery-checks, vote-checks, change-checks, read-checks, refusal, too-little-room, desk-checks}
 use Rattle.laws.specs.Tests.{split, never, and-left, and-right}
-use Rattle.engine.specs.Operations.{number-of, lent-number}
+use Rattle.refusing.specs.Operands.{number-of, lent-number}
 
 -- No check of the desk has number 0.
 abbrev numbered : Check → Bool
