@@ -1,0 +1,145 @@
+use Prim.Native.Nat.{ℕ, _<_}
+use borrow.Fn.Kinds.{In}
+use borrow.Fn.PlainCycle.{Measures, is, falls, and}
+use Rattle.numerals.proofs.write_digits.Reads as write-digits
+use Rattle.numerals.proofs.write_digits.Kinds as write-digits-kinds
+use Rattle.numerals.proofs.+write_digits.Lts-write_digits as write-digits-lts
+use Rattle.numerals.proofs.digit.Reads as digit-reads
+use Rattle.numerals.proofs.write_byte.Reads as write-byte-reads
+use Rattle.numerals.proofs.+write_digits.{statement}
+use Rattle.numerals.proofs.+write_digits.Tie.{close}
+
+abbrev μ-write-digits : Measures 1 write-digits-kinds.ps ℕ
+μ-write-digits κs a = ?
+
+abbrev write-digits-at : ℕ → In 1 write-digits-kinds.ps
+write-digits-at t =
+    and 1 write-digits-kinds.ps (is 1 write-digits-kinds.ps μ-write-digits t) write-digits.Pre
+
+abbrev write-digits-below : ℕ → In 1 write-digits-kinds.ps
+write-digits-below t =
+    and
+    1
+    write-digits-kinds.ps
+    (falls 1 write-digits-kinds.ps _<_ μ-write-digits t)
+    write-digits.Pre
+
+-- src/lib.rt:186:36
+write-digits-digit-requires : (t : ℕ) → write-digits-lts.Need-digit-requires (
+  digit-reads.Asked,
+  digit-reads.Learnt,
+  write-byte-reads.Asked,
+  write-byte-reads.Learnt,
+  write-digits-below t,
+  write-digits.Post,
+) (write-digits-at t) write-digits.Post
+write-digits-digit-requires t c κs = ?
+
+-- src/lib.rt:186:9
+write-digits-write-byte-requires : (t : ℕ) → write-digits-lts.Need-write-byte-requires (
+  digit-reads.Asked,
+  digit-reads.Learnt,
+  write-byte-reads.Asked,
+  write-byte-reads.Learnt,
+  write-digits-below t,
+  write-digits.Post,
+) (write-digits-at t) write-digits.Post
+write-digits-write-byte-requires t c κs = ?
+
+-- src/lib.rt:186:9
+write-digits-same-length : (t : ℕ) → write-digits-lts.Need-same-length (
+  digit-reads.Asked,
+  digit-reads.Learnt,
+  write-byte-reads.Asked,
+  write-byte-reads.Learnt,
+  write-digits-below t,
+  write-digits.Post,
+) (write-digits-at t) write-digits.Post
+write-digits-same-length t c = ?
+
+-- src/lib.rt:186:9
+write-digits-returns : (t : ℕ) → write-digits-lts.Need-returns (
+  digit-reads.Asked,
+  digit-reads.Learnt,
+  write-byte-reads.Asked,
+  write-byte-reads.Learnt,
+  write-digits-below t,
+  write-digits.Post,
+) (write-digits-at t) write-digits.Post
+write-digits-returns t c = ?
+
+-- src/lib.rt:188:9
+write-digits-write-digits-requires : (t : ℕ) → write-digits-lts.Need-write-digits-requires (
+  digit-reads.Asked,
+  digit-reads.Learnt,
+  write-byte-reads.Asked,
+  write-byte-reads.Learnt,
+  write-digits-below t,
+  write-digits.Post,
+) (write-digits-at t) write-digits.Post
+write-digits-write-digits-requires t c κs = ?
+
+-- src/lib.rt:189:27
+write-digits-digit-requires-2 : (t : ℕ) → write-digits-lts.Need-digit-requires-2 (
+  digit-reads.Asked,
+  digit-reads.Learnt,
+  write-byte-reads.Asked,
+  write-byte-reads.Learnt,
+  write-digits-below t,
+  write-digits.Post,
+) (write-digits-at t) write-digits.Post
+write-digits-digit-requires-2 t c κs = ?
+
+-- src/lib.rt:189:5
+write-digits-write-byte-requires-2 : (t : ℕ) → write-digits-lts.Need-write-byte-requires-2 (
+  digit-reads.Asked,
+  digit-reads.Learnt,
+  write-byte-reads.Asked,
+  write-byte-reads.Learnt,
+  write-digits-below t,
+  write-digits.Post,
+) (write-digits-at t) write-digits.Post
+write-digits-write-byte-requires-2 t c κs = ?
+
+-- src/lib.rt:181:1
+write-digits-same-length-2 : (t : ℕ) → write-digits-lts.Need-same-length-2 (
+  digit-reads.Asked,
+  digit-reads.Learnt,
+  write-byte-reads.Asked,
+  write-byte-reads.Learnt,
+  write-digits-below t,
+  write-digits.Post,
+) (write-digits-at t) write-digits.Post
+write-digits-same-length-2 t c = ?
+
+-- src/lib.rt:181:1
+write-digits-returns-2 : (t : ℕ) → write-digits-lts.Need-returns-2 (
+  digit-reads.Asked,
+  digit-reads.Learnt,
+  write-byte-reads.Asked,
+  write-byte-reads.Learnt,
+  write-digits-below t,
+  write-digits.Post,
+) (write-digits-at t) write-digits.Post
+write-digits-returns-2 t c = ?
+
+pub +write-digits-spec : {M : Type 1} → statement M
++write-digits-spec = close μ-write-digits λ t. write-digits-lts.spec (
+  digit-reads.Asked,
+  digit-reads.Learnt,
+  write-byte-reads.Asked,
+  write-byte-reads.Learnt,
+  write-digits-below t,
+  write-digits.Post,
+)
+    (write-digits-at t)
+    write-digits.Post
+    (write-digits-digit-requires t)
+    (write-digits-write-byte-requires t)
+    (write-digits-same-length t)
+    (write-digits-returns t)
+    (write-digits-write-digits-requires t)
+    (write-digits-digit-requires-2 t)
+    (write-digits-write-byte-requires-2 t)
+    (write-digits-same-length-2 t)
+    (write-digits-returns-2 t)

@@ -1,0 +1,33 @@
+use borrow.Author.Needs.{needs}
+use Rattle.numerals.proofs.magnitude.Statement.{statement}
+use Rattle.numerals.proofs.magnitude.Tie as tie
+use Rattle.numerals.proofs.magnitude.Reads as reads
+use Rattle.numerals.proofs.magnitude.Lts as lts
+
+-- src/lib.rt:122:18
+sub-result : tie.Need-sub-result
+sub-result c = ?
+
+-- src/lib.rt:122:17
+cast-result : tie.Need-cast-result
+cast-result c = ?
+
+-- src/lib.rt:122:16
+add-result : tie.Need-add-result
+add-result c = ?
+
+-- src/lib.rt:122:9
+returns : tie.Need-returns
+returns c = ?
+
+-- src/lib.rt:124:5
+cast-result-2 : tie.Need-cast-result-2
+cast-result-2 c = ?
+
+-- src/lib.rt:118:1
+returns-2 : tie.Need-returns-2
+returns-2 c = search needs
+
+pub magnitude-spec : {M : Type 1} → statement M
+magnitude-spec =
+    tie.close (tie.spec sub-result cast-result add-result returns cast-result-2 returns-2)
