@@ -4,5 +4,6 @@ pub mod Decimal
 pub mod Reading
 pub mod Texts
 pub mod Amounts
+pub mod Signs
 pub mod Writing
 pub mod Answers

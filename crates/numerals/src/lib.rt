@@ -93,7 +93,7 @@ pub fn read_number(s: &[u8], limit: u64) -> Number
     Number::Unreadable
 }
 
-// The four places where the bits of a signed value are touched: a value from its magnitude, is it below zero, and its magnitude again.
+// The four places where the bits of a signed value are touched: a value from its magnitude, above zero or below it; is it below zero; its magnitude.
 fn above_zero(m: u64) -> i64
     requires { ⌜ m < 2 ^ 63 ⌝ }
     ensures { λ r. ⌜ r ≡ pos m ⌝ }
@@ -118,8 +118,8 @@ fn is_below_zero(v: i64) -> bool
 fn magnitude(v: i64) -> u64
     ensures { λ r. ⌜ r ≡ natAbs v ⌝ }
 {
-    if v < 0 {
-        return ((-1 - v) as u64) + 1;
+    if is_below_zero(v) {
+        return ((-1 - v) as u64) + 1; // one more than how far v lies below -1, so that the least value has a magnitude too
     }
     v as u64
 }

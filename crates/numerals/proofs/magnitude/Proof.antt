@@ -3,6 +3,11 @@ use Rattle.numerals.proofs.magnitude.Statement.{statement}
 use Rattle.numerals.proofs.magnitude.Tie as tie
 use Rattle.numerals.proofs.magnitude.Reads as reads
 use Rattle.numerals.proofs.magnitude.Lts as lts
+use Rattle.numerals.proofs.is_below_zero.Reads as is-below-zero-reads
+
+-- src/lib.rt:121:8
+is-below-zero-requires : tie.Need-is-below-zero-requires
+is-below-zero-requires c κs = search needs
 
 -- src/lib.rt:122:18
 sub-result : tie.Need-sub-result
@@ -30,4 +35,12 @@ returns-2 c = search needs
 
 pub magnitude-spec : {M : Type 1} → statement M
 magnitude-spec =
-    tie.close (tie.spec sub-result cast-result add-result returns cast-result-2 returns-2)
+    tie.close
+    (tie.spec
+    is-below-zero-requires
+    sub-result
+    cast-result
+    add-result
+    returns
+    cast-result-2
+    returns-2)

@@ -1,3 +1,4 @@
+use Rattle.numerals.specs.Writing.{wrote-byte}
 use borrow.Author.Needs.{needs}
 use Rattle.numerals.proofs.write_byte.Statement.{statement}
 use Rattle.numerals.proofs.write_byte.Tie as tie
@@ -18,7 +19,6 @@ same-length c = search needs
 
 -- src/lib.rt:165:1
 returns : tie.Need-returns
-returns c = ?
-
+returns c = wrote-byte _ _ _ ((c) .pre)
 pub write-byte-spec : {M : Type 1} → statement M
 write-byte-spec = tie.close (tie.spec slice-write-out add-result same-length returns)

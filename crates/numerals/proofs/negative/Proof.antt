@@ -1,0 +1,52 @@
+use borrow.Author.Needs.{needs}
+use Rattle.numerals.proofs.negative.Statement.{statement}
+use Rattle.numerals.proofs.negative.Tie as tie
+use Rattle.numerals.proofs.negative.Reads as reads
+use Rattle.numerals.proofs.negative.Lts as lts
+use Rattle.numerals.proofs.below_zero.Reads as below-zero-reads
+use Rattle.numerals.proofs.read_number.Reads as read-number-reads
+
+-- src/lib.rt:140:11
+read-number-requires : tie.Need-read-number-requires
+read-number-requires c κs = search needs
+
+-- src/lib.rt:141:23
+enum-known-m : tie.Need-enum-known-m
+enum-known-m c = search needs
+
+-- src/lib.rt:143:17
+returns : tie.Need-returns
+returns c = ?
+
+-- src/lib.rt:145:38
+sub-below-zero : tie.Need-sub-below-zero
+sub-below-zero c = search needs
+
+-- src/lib.rt:145:27
+below-zero-requires : tie.Need-below-zero-requires
+below-zero-requires c κs = ?
+
+-- src/lib.rt:147:31
+enum-told : tie.Need-enum-told
+enum-told c = search needs
+
+-- src/lib.rt:137:1
+returns-2 : tie.Need-returns-2
+returns-2 c = ?
+
+-- src/lib.rt:137:1
+returns-3 : tie.Need-returns-3
+returns-3 c = ?
+
+pub negative-spec : {M : Type 1} → statement M
+negative-spec =
+    tie.close
+    (tie.spec
+    read-number-requires
+    enum-known-m
+    returns
+    sub-below-zero
+    below-zero-requires
+    enum-told
+    returns-2
+    returns-3)

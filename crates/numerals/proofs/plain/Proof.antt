@@ -1,0 +1,36 @@
+use borrow.Author.Needs.{needs}
+use Rattle.numerals.proofs.plain.Statement.{statement}
+use Rattle.numerals.proofs.plain.Tie as tie
+use Rattle.numerals.proofs.plain.Reads as reads
+use Rattle.numerals.proofs.plain.Lts as lts
+use Rattle.numerals.proofs.above_zero.Reads as above-zero-reads
+use Rattle.numerals.proofs.read_number.Reads as read-number-reads
+
+-- src/lib.rt:130:11
+read-number-requires : tie.Need-read-number-requires
+read-number-requires c κs = search needs
+
+-- src/lib.rt:131:23
+enum-known-m : tie.Need-enum-known-m
+enum-known-m c = search needs
+
+-- src/lib.rt:131:43
+above-zero-requires : tie.Need-above-zero-requires
+above-zero-requires c κs = ?
+
+-- src/lib.rt:132:31
+enum-told : tie.Need-enum-told
+enum-told c = search needs
+
+-- src/lib.rt:127:1
+returns : tie.Need-returns
+returns c = ?
+
+-- src/lib.rt:127:1
+returns-2 : tie.Need-returns-2
+returns-2 c = ?
+
+pub plain-spec : {M : Type 1} → statement M
+plain-spec =
+    tie.close
+    (tie.spec read-number-requires enum-known-m above-zero-requires enum-told returns returns-2)

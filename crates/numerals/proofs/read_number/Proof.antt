@@ -1,0 +1,26 @@
+use borrow.Author.Needs.{needs}
+use Rattle.numerals.proofs.read_number.Statement.{statement}
+use Rattle.numerals.proofs.read_number.Tie as tie
+use Rattle.numerals.proofs.read_number.Reads as reads
+use Rattle.numerals.proofs.read_number.Lts as lts
+use Rattle.numerals.proofs.digits.Reads as digits-reads
+use Rattle.numerals.proofs.is_well_led.Reads as is-well-led-reads
+
+-- src/lib.rt:90:8
+is-well-led-requires : tie.Need-is-well-led-requires
+is-well-led-requires c κs = search needs
+
+-- src/lib.rt:91:9
+digits-requires : tie.Need-digits-requires
+digits-requires c κs = search needs
+
+-- src/lib.rt:91:9
+returns : tie.Need-returns
+returns c = ?
+
+-- src/lib.rt:87:1
+returns-2 : tie.Need-returns-2
+returns-2 c = ?
+
+pub read-number-spec : {M : Type 1} → statement M
+read-number-spec = tie.close (tie.spec is-well-led-requires digits-requires returns returns-2)

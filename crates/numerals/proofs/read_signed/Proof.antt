@@ -1,0 +1,57 @@
+use borrow.Author.Needs.{needs}
+use Rattle.numerals.proofs.read_signed.Statement.{statement}
+use Rattle.numerals.proofs.read_signed.Tie as tie
+use Rattle.numerals.proofs.read_signed.Reads as reads
+use Rattle.numerals.proofs.read_signed.Lts as lts
+use Rattle.numerals.proofs.negative.Reads as negative-reads
+use Rattle.numerals.proofs.plain.Reads as plain-reads
+
+-- src/lib.rt:156:9
+returns : tie.Need-returns
+returns c = ?
+
+-- src/lib.rt:158:8
+shared-slice-read-if2 : tie.Need-shared-slice-read-if2
+shared-slice-read-if2 c = search needs
+
+-- src/lib.rt:159:25
+sub-negative : tie.Need-sub-negative
+sub-negative c = search needs
+
+-- src/lib.rt:159:25
+part-negative-start : tie.Need-part-negative-start
+part-negative-start c = search needs
+
+-- src/lib.rt:159:25
+part-negative-end : tie.Need-part-negative-end
+part-negative-end c = search needs
+
+-- src/lib.rt:159:9
+negative-requires : tie.Need-negative-requires
+negative-requires c κs = search needs
+
+-- src/lib.rt:159:9
+returns-2 : tie.Need-returns-2
+returns-2 c = ?
+
+-- src/lib.rt:161:5
+plain-requires : tie.Need-plain-requires
+plain-requires c κs = search needs
+
+-- src/lib.rt:152:1
+returns-3 : tie.Need-returns-3
+returns-3 c = ?
+
+pub read-signed-spec : {M : Type 1} → statement M
+read-signed-spec =
+    tie.close
+    (tie.spec
+    returns
+    shared-slice-read-if2
+    sub-negative
+    part-negative-start
+    part-negative-end
+    negative-requires
+    returns-2
+    plain-requires
+    returns-3)
