@@ -8,7 +8,8 @@ use borrow.Author.Tests.{eq-eqb, ne-eqb, eqb-true}
 use native.Mathlib.Omega.{arith}
 use lib.Dec.{eqb}
 use lib.IntN.{ℤ, pos, negsuc, natAbs}
-use lib.ListN.{length, drop, getD}
+use lib.ListN.{length, take, drop, getD}
+use lib.Seq.{take-all}
 use lib.Signed.{mag}
 use Rattle.rules.specs.Lists.{all, member}
 use Rattle.rules.specs.Bytes.{is-digit, number, signed, below-zero, decimal, signed-text, minus}
@@ -58,10 +59,11 @@ unfolding signed
 signed-nothing [] h = refl
 signed-nothing (b ∷ bs) h = absurd (omega arith)
 
-pub signed-minus : (s : List ℕ) → (length s ≡ 0 → ⊥) → getD s 0 0 ≡ 45 → signed s ≡ below-zero (number 9_223_372_036_854_775_808 (drop 1 s))
+pub signed-minus : (s : List ℕ) → (length s ≡ 0 → ⊥) → getD s 0 0 ≡ 45
+    → signed s ≡ below-zero (number 9_223_372_036_854_775_808 (take (length s - 1) (drop 1 s)))
 unfolding signed
 signed-minus [] n e = absurd (n refl)
-signed-minus (b ∷ bs) n e = rw (eq-eqb b 45 e)
+signed-minus (b ∷ bs) n e = rw (eq-eqb b 45 e, take-all (suc (length bs) - 1) bs (omega arith))
 
 pub signed-plain : (s : List ℕ) → (length s ≡ 0 → ⊥) → (getD s 0 0 ≡ 45 → ⊥) → signed s ≡ Option·map pos (number 9_223_372_036_854_775_807 s)
 unfolding signed
@@ -76,13 +78,12 @@ signed-digits (b ∷ bs) l h =
     signed-plain (b ∷ bs) (λ e. omega arith) (λ e. omega arith)
 
 pub signed-read-back : (z : ℤ) → mag z < 2 ^ 63 → signed (signed-text z) ≡ some z
-unfolding signed-text
+unfolding signed signed-text
 signed-read-back (pos n) h =
     signed-digits (decimal n) (decimal-some n) (decimal-digits n)
     ∙ ap (Option·map pos) (number-read-back n 9_223_372_036_854_775_807 (omega arith))
 signed-read-back (negsuc n) h =
-    signed-minus (45 ∷ decimal (suc n)) (λ e. omega arith) refl
-    ∙ ap below-zero (number-read-back (suc n) 9_223_372_036_854_775_808 (omega arith))
+    ap below-zero (number-read-back (suc n) 9_223_372_036_854_775_808 (omega arith))
 
 -- A value has one text, and is of 64 bits.
 below-some : (o : Option ℕ) (z : ℤ) → below-zero o ≡ some z → (n : ℕ) × ((o ≡ some (suc n)) × (z ≡ negsuc n))

@@ -58,19 +58,23 @@ magnitude-small (pos n) h = omega arith
 magnitude-small (negsuc n) h = omega arith
 
 module _ (z : ℤ) (f : SFits w64 z) where
+  -- the test as the code makes it is the value's
+  told : {b : Bool} → is-below (toZ w64 (ofZ w64 z)) ≡ b → is-below z ≡ b
+  told h = ap is-below (sym (toZ-ofZ f)) ∙ h
+
   -- of a value that isn't below zero
-  pub magnitude-cast : is-below z ≡ false → T (nonNeg (toZ w64 (ofZ w64 z))) × Fits w64 (natAbs (toZ w64 (ofZ w64 z)))
+  pub magnitude-cast : is-below (toZ w64 (ofZ w64 z)) ≡ false → T (nonNeg (toZ w64 (ofZ w64 z))) × Fits w64 (natAbs (toZ w64 (ofZ w64 z)))
   magnitude-cast h =
-      subst (λ (k : ℤ). T (nonNeg k) × Fits w64 (natAbs k)) (sym (toZ-ofZ f ∙ plain-magnitude z h))
+      subst (λ (k : ℤ). T (nonNeg k) × Fits w64 (natAbs k)) (sym (toZ-ofZ f ∙ plain-magnitude z (told h)))
       (tt, record { fits = magnitude-small z (f .sfits) })
 
   pub magnitude-plain : natAbs (toZ w64 (ofZ w64 z)) ≡ natAbs z
   magnitude-plain = ap natAbs (toZ-ofZ f)
 
   -- of a value below zero
-  module _ (h : is-below z ≡ true) where
+  module _ (h : is-below (toZ w64 (ofZ w64 z)) ≡ true) where
     mirrored : negsuc 0 -ℤ toZ w64 (ofZ w64 z) ≡ pos (mag z)
-    mirrored = ap (λ (k : ℤ). negsuc 0 -ℤ k) (toZ-ofZ f) ∙ below-magnitude z h .0
+    mirrored = ap (λ (k : ℤ). negsuc 0 -ℤ k) (toZ-ofZ f) ∙ below-magnitude z (told h) .0
 
     pub mirrored-fits : SFits w64 (negsuc 0 -ℤ toZ w64 (ofZ w64 z))
     mirrored-fits = subst (SFits w64) (sym mirrored) (record { sfits = f .sfits })
@@ -93,4 +97,4 @@ module _ (z : ℤ) (f : SFits w64 z) where
         subst (λ (k : ℤ). Fits w64 (natAbs k + 1)) (sym mirrored-value) (record { fits = omega arith })
 
     pub mirrored-magnitude : natAbs (toZ w64 (ofZ w64 (negsuc 0 -ℤ toZ w64 (ofZ w64 z)))) + 1 ≡ natAbs z
-    mirrored-magnitude = ap (λ (k : ℤ). natAbs k + 1) mirrored-value ∙ below-magnitude z h .1
+    mirrored-magnitude = ap (λ (k : ℤ). natAbs k + 1) mirrored-value ∙ below-magnitude z (told h) .1

@@ -1,3 +1,6 @@
+use Rattle.numerals.specs.Writing.{room-small, room-front, room-last, wrote-small, wrote-large}
+use native.Mathlib.Omega.{arith}
+use mathlib.Core.Path.{_∙_}
 use Prim.Native.Nat.{ℕ, _<_}
 use borrow.Fn.Kinds.{In}
 use borrow.Fn.PlainCycle.{Measures, is, falls, and}
@@ -10,8 +13,7 @@ use Rattle.numerals.proofs.+write_digits.{statement}
 use Rattle.numerals.proofs.+write_digits.Tie.{close}
 
 abbrev μ-write-digits : Measures 1 write-digits-kinds.ps ℕ
-μ-write-digits κs a = ?
-
+μ-write-digits κs a = a .1 .1 .0
 abbrev write-digits-at : ℕ → In 1 write-digits-kinds.ps
 write-digits-at t =
     and 1 write-digits-kinds.ps (is 1 write-digits-kinds.ps μ-write-digits t) write-digits.Pre
@@ -33,8 +35,7 @@ write-digits-digit-requires : (t : ℕ) → write-digits-lts.Need-digit-requires
   write-digits-below t,
   write-digits.Post,
 ) (write-digits-at t) write-digits.Post
-write-digits-digit-requires t c κs = ?
-
+write-digits-digit-requires t c κs = (c .before .if1) .taken
 -- src/lib.rt:186:9
 write-digits-write-byte-requires : (t : ℕ) → write-digits-lts.Need-write-byte-requires (
   digit-reads.Asked,
@@ -44,8 +45,7 @@ write-digits-write-byte-requires : (t : ℕ) → write-digits-lts.Need-write-byt
   write-digits-below t,
   write-digits.Post,
 ) (write-digits-at t) write-digits.Post
-write-digits-write-byte-requires t c κs = ?
-
+write-digits-write-byte-requires t c κs = room-small _ _ _ ((c .before .before .before .before) .pre .1)
 -- src/lib.rt:186:9
 write-digits-same-length : (t : ℕ) → write-digits-lts.Need-same-length (
   digit-reads.Asked,
@@ -55,8 +55,7 @@ write-digits-same-length : (t : ℕ) → write-digits-lts.Need-same-length (
   write-digits-below t,
   write-digits.Post,
 ) (write-digits-at t) write-digits.Post
-write-digits-same-length t c = ?
-
+write-digits-same-length t c = (c .before .before .write-byte) .kept .0
 -- src/lib.rt:186:9
 write-digits-returns : (t : ℕ) → write-digits-lts.Need-returns (
   digit-reads.Asked,
@@ -66,8 +65,7 @@ write-digits-returns : (t : ℕ) → write-digits-lts.Need-returns (
   write-digits-below t,
   write-digits.Post,
 ) (write-digits-at t) write-digits.Post
-write-digits-returns t c = ?
-
+write-digits-returns t c = wrote-small ((c .before .before .before .before .before .if1) .taken) ((c .before .before .before .digit) .ensures) ((c .before .before .write-byte) .ensures)
 -- src/lib.rt:188:9
 write-digits-write-digits-requires : (t : ℕ) → write-digits-lts.Need-write-digits-requires (
   digit-reads.Asked,
@@ -77,8 +75,7 @@ write-digits-write-digits-requires : (t : ℕ) → write-digits-lts.Need-write-d
   write-digits-below t,
   write-digits.Post,
 ) (write-digits-at t) write-digits.Post
-write-digits-write-digits-requires t c κs = ?
-
+write-digits-write-digits-requires t c κs = (omega arith, room-front _ _ _ ((c .before .if1) .left) ((c .before .before .before) .pre .1))
 -- src/lib.rt:189:27
 write-digits-digit-requires-2 : (t : ℕ) → write-digits-lts.Need-digit-requires-2 (
   digit-reads.Asked,
@@ -88,8 +85,7 @@ write-digits-digit-requires-2 : (t : ℕ) → write-digits-lts.Need-digit-requir
   write-digits-below t,
   write-digits.Post,
 ) (write-digits-at t) write-digits.Post
-write-digits-digit-requires-2 t c κs = ?
-
+write-digits-digit-requires-2 t c κs = omega arith
 -- src/lib.rt:189:5
 write-digits-write-byte-requires-2 : (t : ℕ) → write-digits-lts.Need-write-byte-requires-2 (
   digit-reads.Asked,
@@ -99,8 +95,7 @@ write-digits-write-byte-requires-2 : (t : ℕ) → write-digits-lts.Need-write-b
   write-digits-below t,
   write-digits.Post,
 ) (write-digits-at t) write-digits.Post
-write-digits-write-byte-requires-2 t c κs = ?
-
+write-digits-write-byte-requires-2 t c κs = room-last ((c .before .before .before .before .before .before .if1) .left) ((c .before .before .before .before .before .before .before .before) .pre .1) ((c .before .before .before .before .write-digits) .ensures)
 -- src/lib.rt:181:1
 write-digits-same-length-2 : (t : ℕ) → write-digits-lts.Need-same-length-2 (
   digit-reads.Asked,
@@ -110,8 +105,7 @@ write-digits-same-length-2 : (t : ℕ) → write-digits-lts.Need-same-length-2 (
   write-digits-below t,
   write-digits.Post,
 ) (write-digits-at t) write-digits.Post
-write-digits-same-length-2 t c = ?
-
+write-digits-same-length-2 t c = (c .before .before .write-byte2) .kept .0 ∙ (c .before .before .before .before .before .before .before .write-digits) .kept .0
 -- src/lib.rt:181:1
 write-digits-returns-2 : (t : ℕ) → write-digits-lts.Need-returns-2 (
   digit-reads.Asked,
@@ -121,8 +115,7 @@ write-digits-returns-2 : (t : ℕ) → write-digits-lts.Need-returns-2 (
   write-digits-below t,
   write-digits.Post,
 ) (write-digits-at t) write-digits.Post
-write-digits-returns-2 t c = ?
-
+write-digits-returns-2 t c = wrote-large ((c .before .before .before .before .before .before .before .before .before .if1) .left) ((c .before .before .before .before .before .before .before .before .before .before .before) .pre .1) ((c .before .before .before .digit2) .ensures) ((c .before .before .before .before .before .before .before .write-digits) .ensures) ((c .before .before .write-byte2) .ensures)
 pub +write-digits-spec : {M : Type 1} → statement M
 +write-digits-spec = close μ-write-digits λ t. write-digits-lts.spec (
   digit-reads.Asked,

@@ -1,3 +1,4 @@
+use Rattle.numerals.specs.Signs.{below-fits, below-value}
 use borrow.Author.Needs.{needs}
 use Rattle.numerals.proofs.below_zero.Statement.{statement}
 use Rattle.numerals.proofs.below_zero.Tie as tie
@@ -10,11 +11,9 @@ cast-result c = search needs
 
 -- src/lib.rt:109:5
 sub-result : tie.Need-sub-result
-sub-result c = ?
-
+sub-result c = below-fits _ ((c) .pre)
 -- src/lib.rt:105:1
 returns : tie.Need-returns
-returns c = ?
-
+returns c = below-value _ ((c) .pre)
 pub below-zero-spec : {M : Type 1} → statement M
 below-zero-spec = tie.close (tie.spec cast-result sub-result returns)

@@ -1,3 +1,4 @@
+use Rattle.numerals.specs.Signs.{below-bits}
 use Rattle.numerals.proofs.is_below_zero.Statement.{statement}
 use Rattle.numerals.proofs.is_below_zero.Tie as tie
 use Rattle.numerals.proofs.is_below_zero.Reads as reads
@@ -5,7 +6,6 @@ use Rattle.numerals.proofs.is_below_zero.Lts as lts
 
 -- src/lib.rt:112:1
 returns : tie.Need-returns
-returns c = ?
-
+returns c = below-bits _ ((c) .fits .v)
 pub is-below-zero-spec : {M : Type 1} → statement M
 is-below-zero-spec = tie.close (tie.spec returns)

@@ -1,3 +1,5 @@
+use Rattle.numerals.specs.Signs.{mirrored-fits, mirrored-cast, mirrored-more, mirrored-magnitude, magnitude-cast, magnitude-plain}
+use mathlib.Core.Path.{sym, _∙_}
 use borrow.Author.Needs.{needs}
 use Rattle.numerals.proofs.magnitude.Statement.{statement}
 use Rattle.numerals.proofs.magnitude.Tie as tie
@@ -11,24 +13,19 @@ is-below-zero-requires c κs = search needs
 
 -- src/lib.rt:122:18
 sub-result : tie.Need-sub-result
-sub-result c = ?
-
+sub-result c = mirrored-fits _ ((c .before .before) .fits .v) (sym ((c .before .is-below-zero) .ensures) ∙ (c .if1) .taken)
 -- src/lib.rt:122:17
 cast-result : tie.Need-cast-result
-cast-result c = ?
-
+cast-result c = mirrored-cast _ ((c .before .before) .fits .v) (sym ((c .before .is-below-zero) .ensures) ∙ (c .if1) .taken)
 -- src/lib.rt:122:16
 add-result : tie.Need-add-result
-add-result c = ?
-
+add-result c = mirrored-more _ ((c .before .before) .fits .v) (sym ((c .before .is-below-zero) .ensures) ∙ (c .if1) .taken)
 -- src/lib.rt:122:9
 returns : tie.Need-returns
-returns c = ?
-
+returns c = mirrored-magnitude _ ((c .before .before) .fits .v) (sym ((c .before .is-below-zero) .ensures) ∙ (c .if1) .taken)
 -- src/lib.rt:124:5
 cast-result-2 : tie.Need-cast-result-2
-cast-result-2 c = ?
-
+cast-result-2 c = magnitude-cast _ ((c .before .before) .fits .v) (sym ((c .before .is-below-zero) .ensures) ∙ (c .if1) .left)
 -- src/lib.rt:118:1
 returns-2 : tie.Need-returns-2
 returns-2 c = search needs

@@ -1,3 +1,8 @@
+use Rattle.numerals.specs.Answers.{value-within, negative-value, negative-zero, negative-unreadable}
+use mir.Syntax.{w64}
+use mir.Facts.{toZ-ofZ}
+use native.Mathlib.Omega.{arith}
+use mathlib.Core.Path.{sym, _∙_}
 use borrow.Author.Needs.{needs}
 use Rattle.numerals.proofs.negative.Statement.{statement}
 use Rattle.numerals.proofs.negative.Tie as tie
@@ -16,28 +21,24 @@ enum-known-m c = search needs
 
 -- src/lib.rt:143:17
 returns : tie.Need-returns
-returns c = ?
-
+returns c = negative-zero _ _ (sym ((c .before .before .m) .given .1) ∙ (c .before .before .before .before .read-number) .ensures) ((c .if1) .taken)
 -- src/lib.rt:145:38
 sub-below-zero : tie.Need-sub-below-zero
 sub-below-zero c = search needs
 
 -- src/lib.rt:145:27
 below-zero-requires : tie.Need-below-zero-requires
-below-zero-requires c κs = ?
-
+below-zero-requires c κs = let low = value-within _ _ _ (sym ((c .before .before .m) .given .1) ∙ (c .before .before .before .before .read-number) .ensures) in omega arith
 -- src/lib.rt:147:31
 enum-told : tie.Need-enum-told
 enum-told c = search needs
 
 -- src/lib.rt:137:1
 returns-2 : tie.Need-returns-2
-returns-2 c = ?
-
+returns-2 c = negative-value _ _ _ (sym ((c .before .before .before .m) .given .1) ∙ (c .before .before .before .before .before .read-number) .ensures) ((c .before .if1) .left) (toZ-ofZ {w = w64} (record { sfits = (c .below-zero) .ok }) ∙ (c .below-zero) .ensures)
 -- src/lib.rt:137:1
 returns-3 : tie.Need-returns-3
-returns-3 c = ?
-
+returns-3 c = negative-unreadable _ (sym ((c .enum-told) .given .1) ∙ (c .before .before .read-number) .ensures)
 pub negative-spec : {M : Type 1} → statement M
 negative-spec =
     tie.close

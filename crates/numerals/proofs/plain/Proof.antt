@@ -1,3 +1,8 @@
+use Rattle.numerals.specs.Answers.{value-within, plain-value, plain-unreadable}
+use mir.Syntax.{w64}
+use mir.Facts.{toZ-ofZ}
+use native.Mathlib.Omega.{arith}
+use mathlib.Core.Path.{sym, _∙_}
 use borrow.Author.Needs.{needs}
 use Rattle.numerals.proofs.plain.Statement.{statement}
 use Rattle.numerals.proofs.plain.Tie as tie
@@ -16,20 +21,17 @@ enum-known-m c = search needs
 
 -- src/lib.rt:131:43
 above-zero-requires : tie.Need-above-zero-requires
-above-zero-requires c κs = ?
-
+above-zero-requires c κs = let low = value-within _ _ _ (sym ((c .before .m) .given .1) ∙ (c .before .before .before .read-number) .ensures) in omega arith
 -- src/lib.rt:132:31
 enum-told : tie.Need-enum-told
 enum-told c = search needs
 
 -- src/lib.rt:127:1
 returns : tie.Need-returns
-returns c = ?
-
+returns c = plain-value _ _ _ (sym ((c .before .before .m) .given .1) ∙ (c .before .before .before .before .read-number) .ensures) (toZ-ofZ {w = w64} (record { sfits = (c .above-zero) .ok }) ∙ (c .above-zero) .ensures)
 -- src/lib.rt:127:1
 returns-2 : tie.Need-returns-2
-returns-2 c = ?
-
+returns-2 c = plain-unreadable _ (sym ((c .enum-told) .given .1) ∙ (c .before .before .read-number) .ensures)
 pub plain-spec : {M : Type 1} → statement M
 plain-spec =
     tie.close

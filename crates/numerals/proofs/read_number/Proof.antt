@@ -1,3 +1,6 @@
+use Rattle.numerals.specs.Answers.{number-of, number-unreadable}
+use Rattle.numerals.specs.Reading.{number-led, number-unled}
+use mathlib.Core.Path.{sym, ap, _∙_}
 use borrow.Author.Needs.{needs}
 use Rattle.numerals.proofs.read_number.Statement.{statement}
 use Rattle.numerals.proofs.read_number.Tie as tie
@@ -16,11 +19,9 @@ digits-requires c κs = search needs
 
 -- src/lib.rt:91:9
 returns : tie.Need-returns
-returns c = ?
-
+returns c = (c .digits) .ensures ∙ sym (ap number-of (number-led _ _ (sym ((c .before .before .is-well-led) .ensures) ∙ (c .before .if1) .taken)))
 -- src/lib.rt:87:1
 returns-2 : tie.Need-returns-2
-returns-2 c = ?
-
+returns-2 c = number-unreadable (number-unled _ _ (sym ((c .before .is-well-led) .ensures) ∙ (c .if1) .left))
 pub read-number-spec : {M : Type 1} → statement M
 read-number-spec = tie.close (tie.spec is-well-led-requires digits-requires returns returns-2)

@@ -1,3 +1,6 @@
+use Rattle.numerals.specs.Answers.{amount-of, amount-unreadable}
+use Rattle.numerals.specs.Amounts.{signed-nothing, signed-minus, signed-plain}
+use mathlib.Core.Path.{sym, ap, _∙_}
 use borrow.Author.Needs.{needs}
 use Rattle.numerals.proofs.read_signed.Statement.{statement}
 use Rattle.numerals.proofs.read_signed.Tie as tie
@@ -8,8 +11,7 @@ use Rattle.numerals.proofs.plain.Reads as plain-reads
 
 -- src/lib.rt:156:9
 returns : tie.Need-returns
-returns c = ?
-
+returns c = amount-unreadable (signed-nothing _ ((c .if1) .taken))
 -- src/lib.rt:158:8
 shared-slice-read-if2 : tie.Need-shared-slice-read-if2
 shared-slice-read-if2 c = search needs
@@ -32,16 +34,14 @@ negative-requires c κs = search needs
 
 -- src/lib.rt:159:9
 returns-2 : tie.Need-returns-2
-returns-2 c = ?
-
+returns-2 c = (c .negative) .ensures ∙ sym (ap amount-of (signed-minus _ ((c .before .before .before .before .if1) .left) ((c .before .before .if2) .taken)))
 -- src/lib.rt:161:5
 plain-requires : tie.Need-plain-requires
 plain-requires c κs = search needs
 
 -- src/lib.rt:152:1
 returns-3 : tie.Need-returns-3
-returns-3 c = ?
-
+returns-3 c = (c .plain) .ensures ∙ sym (ap amount-of (signed-plain _ ((c .before .before .before .if1) .left) ((c .before .if2) .left)))
 pub read-signed-spec : {M : Type 1} → statement M
 read-signed-spec =
     tie.close

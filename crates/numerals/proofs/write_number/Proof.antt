@@ -1,3 +1,4 @@
+use Rattle.numerals.specs.Writing.{room-number}
 use borrow.Author.Needs.{needs}
 use Rattle.numerals.proofs.write_number.Statement.{statement}
 use Rattle.numerals.proofs.write_number.Tie as tie
@@ -7,8 +8,7 @@ use Rattle.numerals.proofs.write_digits.Reads as write-digits-reads
 
 -- src/lib.rt:196:5
 write-digits-requires : tie.Need-write-digits-requires
-write-digits-requires c κs = ?
-
+write-digits-requires c κs = room-number _ _ _ ((c .before .before) .fits .v .fits) ((c .before .before) .pre)
 -- src/lib.rt:192:1
 same-length : tie.Need-same-length
 same-length c = search needs

@@ -1,3 +1,6 @@
+use Rattle.numerals.specs.Writing.{room-plain, room-below, wrote-plain, wrote-below}
+use mir.Facts.{toZ-ofZ}
+use mathlib.Core.Path.{sym, _∙_}
 use borrow.Author.Needs.{needs}
 use Rattle.numerals.proofs.write_signed.Statement.{statement}
 use Rattle.numerals.proofs.write_signed.Tie as tie
@@ -22,32 +25,28 @@ magnitude-requires c κs = search needs
 
 -- src/lib.rt:205:9
 write-digits-requires : tie.Need-write-digits-requires
-write-digits-requires c κs = ?
-
+write-digits-requires c κs = room-below (toZ-ofZ ((c .before .before .before .before .before .before .before .before .before) .fits .v)) ((c .magnitude) .ensures) ((c .before .before .before .before .before .before .before .before .before) .fits .v .sfits) ((c .before .before .before .before .before .before .before .before .before) .pre) ((c .before .before .before .before .write-byte) .ensures)
 -- src/lib.rt:205:9
 same-length : tie.Need-same-length
 same-length c = search needs
 
 -- src/lib.rt:205:9
 returns : tie.Need-returns
-returns c = ?
-
+returns c = wrote-below (toZ-ofZ ((c .before .before .before .before .before .before .before .before .before .before .before .before) .fits .v)) (sym ((c .before .before .before .before .before .before .before .before .before .before .is-below-zero) .ensures) ∙ (c .before .before .before .before .before .before .before .before .before .if1) .taken) ((c .before .before .before .magnitude) .ensures) ((c .before .before .before .before .before .before .before .before .before .before .before .before) .pre) ((c .before .before .before .before .before .before .before .write-byte) .ensures) ((c .before .before .write-digits) .ensures)
 -- src/lib.rt:207:27
 magnitude-requires-2 : tie.Need-magnitude-requires-2
 magnitude-requires-2 c κs = search needs
 
 -- src/lib.rt:207:5
 write-digits-requires-2 : tie.Need-write-digits-requires-2
-write-digits-requires-2 c κs = ?
-
+write-digits-requires-2 c κs = room-plain _ _ (toZ-ofZ ((c .before .before .before .before .before) .fits .v)) ((c .magnitude2) .ensures) ((c .before .before .before .before .before) .fits .v .sfits) ((c .before .before .before .before .before) .pre)
 -- src/lib.rt:199:1
 same-length-2 : tie.Need-same-length-2
 same-length-2 c = search needs
 
 -- src/lib.rt:199:1
 returns-2 : tie.Need-returns-2
-returns-2 c = ?
-
+returns-2 c = wrote-plain (toZ-ofZ ((c .before .before .before .before .before .before .before .before) .fits .v)) (sym ((c .before .before .before .before .before .before .is-below-zero) .ensures) ∙ (c .before .before .before .before .before .if1) .left) ((c .before .before .before .magnitude2) .ensures) ((c .before .before .write-digits2) .ensures)
 pub write-signed-spec : {M : Type 1} → statement M
 write-signed-spec =
     tie.close
