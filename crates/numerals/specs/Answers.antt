@@ -69,7 +69,8 @@ plain-value o v z e s = amount-value (ap (Option·map pos) (value-number o v e) 
 pub plain-unreadable : (o : Option ℕ) → numbers.Unreadable ≡ number-of o → amounts.Unreadable ≡ amount-of (Option·map pos o)
 plain-unreadable o e = amount-unreadable (ap (Option·map pos) (unreadable-number o e))
 
-pub negative-value : (o : Option ℕ) (v : ℕ) (z : ℤ) → numbers.Value v ≡ number-of o → (v ≡ 0 → ⊥) → z ≡ negsuc (v - 1) → amounts.Value z ≡ amount-of (below-zero o)
+pub negative-value : (o : Option ℕ) (v : ℕ) (z : ℤ) → numbers.Value v ≡ number-of o → (v ≡ 0 → ⊥) → z ≡ negsuc (v - 1)
+    → amounts.Value z ≡ amount-of (below-zero o)
 negative-value o v z e n s =
     let one : v ≡ suc (v - 1) = omega arith in
     amount-value (ap below-zero (value-number o v e ∙ ap some one) ∙ ap some (sym s))

@@ -136,7 +136,8 @@ decimal-length n v h =
     by-digits (λ m l. (k : ℕ) → m < 10 ^ suc k → length l ≤ suc k) (λ d low k q. omega arith)
     longer v n h
   where
-    longer : (m d : ℕ) (l : List ℕ) → 0 < m → d < 10 → ((k : ℕ) → m < 10 ^ suc k → length l ≤ suc k) → (k : ℕ) → m * 10 + d < 10 ^ suc k → length (l ++ (48 + d) ∷ []) ≤ suc k
+    longer : (m d : ℕ) (l : List ℕ) → 0 < m → d < 10 → ((k : ℕ) → m < 10 ^ suc k → length l ≤ suc k) → (k : ℕ) → m * 10 + d < 10 ^ suc k
+        → length (l ++ (48 + d) ∷ []) ≤ suc k
     longer m d l p low so zero q = absurd (omega arith)
     longer m d l p low so (suc k) q =
         let long = length-append l ((48 + d) ∷ []) in

@@ -14,6 +14,7 @@ ghost use Rattle.numerals.specs.Answers.{number-of, amount-of};
 
 // The largest and the least signed 64-bit value, without their signs.
 const LARGEST: u64 = 9223372036854775807;
+
 const LEAST: u64 = 9223372036854775808;
 
 // What a part is as an unsigned number.

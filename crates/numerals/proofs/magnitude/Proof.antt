@@ -1,32 +1,28 @@
-use Rattle.numerals.specs.Signs.{mirrored-fits, mirrored-cast, mirrored-more, mirrored-magnitude, magnitude-cast, magnitude-plain}
+-- `numerals::magnitude` meets its contract: a value below zero is mirrored at -1, which stays in the range, and its magnitude is one more. Assumes nothing.
 use mathlib.Core.Path.{sym, _∙_}
 use borrow.Author.Needs.{needs}
+use Rattle.numerals.specs.Signs.{mirrored-fits, mirrored-cast, mirrored-more, mirrored-magnitude, magnitude-cast, magnitude-plain}
 use Rattle.numerals.proofs.magnitude.Statement.{statement}
 use Rattle.numerals.proofs.magnitude.Tie as tie
-use Rattle.numerals.proofs.magnitude.Reads as reads
-use Rattle.numerals.proofs.magnitude.Lts as lts
-use Rattle.numerals.proofs.is_below_zero.Reads as is-below-zero-reads
 
--- src/lib.rt:121:8
 is-below-zero-requires : tie.Need-is-below-zero-requires
 is-below-zero-requires c κs = search needs
 
--- src/lib.rt:122:18
 sub-result : tie.Need-sub-result
-sub-result c = mirrored-fits _ ((c .before .before) .fits .v) (sym ((c .before .is-below-zero) .ensures) ∙ (c .if1) .taken)
--- src/lib.rt:122:17
+sub-result c = mirrored-fits _ (c .before .before .fits .v) (sym (c .before .is-below-zero .ensures) ∙ c .if1 .taken)
+
 cast-result : tie.Need-cast-result
-cast-result c = mirrored-cast _ ((c .before .before) .fits .v) (sym ((c .before .is-below-zero) .ensures) ∙ (c .if1) .taken)
--- src/lib.rt:122:16
+cast-result c = mirrored-cast _ (c .before .before .fits .v) (sym (c .before .is-below-zero .ensures) ∙ c .if1 .taken)
+
 add-result : tie.Need-add-result
-add-result c = mirrored-more _ ((c .before .before) .fits .v) (sym ((c .before .is-below-zero) .ensures) ∙ (c .if1) .taken)
--- src/lib.rt:122:9
+add-result c = mirrored-more _ (c .before .before .fits .v) (sym (c .before .is-below-zero .ensures) ∙ c .if1 .taken)
+
 returns : tie.Need-returns
-returns c = mirrored-magnitude _ ((c .before .before) .fits .v) (sym ((c .before .is-below-zero) .ensures) ∙ (c .if1) .taken)
--- src/lib.rt:124:5
+returns c = mirrored-magnitude _ (c .before .before .fits .v) (sym (c .before .is-below-zero .ensures) ∙ c .if1 .taken)
+
 cast-result-2 : tie.Need-cast-result-2
-cast-result-2 c = magnitude-cast _ ((c .before .before) .fits .v) (sym ((c .before .is-below-zero) .ensures) ∙ (c .if1) .left)
--- src/lib.rt:118:1
+cast-result-2 c = magnitude-cast _ (c .before .before .fits .v) (sym (c .before .is-below-zero .ensures) ∙ c .if1 .left)
+
 returns-2 : tie.Need-returns-2
 returns-2 c = search needs
 

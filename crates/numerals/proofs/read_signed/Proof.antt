@@ -1,47 +1,38 @@
-use Rattle.numerals.specs.Answers.{amount-of, amount-unreadable}
-use Rattle.numerals.specs.Amounts.{signed-nothing, signed-minus, signed-plain}
+-- `numerals::read_signed` meets its contract: the rules go by the first byte too, and each way is what its function answers. Assumes nothing.
 use mathlib.Core.Path.{sym, ap, _∙_}
 use borrow.Author.Needs.{needs}
+use Rattle.numerals.specs.Answers.{amount-of, amount-unreadable}
+use Rattle.numerals.specs.Amounts.{signed-nothing, signed-minus, signed-plain}
 use Rattle.numerals.proofs.read_signed.Statement.{statement}
 use Rattle.numerals.proofs.read_signed.Tie as tie
-use Rattle.numerals.proofs.read_signed.Reads as reads
-use Rattle.numerals.proofs.read_signed.Lts as lts
-use Rattle.numerals.proofs.negative.Reads as negative-reads
-use Rattle.numerals.proofs.plain.Reads as plain-reads
 
--- src/lib.rt:156:9
 returns : tie.Need-returns
-returns c = amount-unreadable (signed-nothing _ ((c .if1) .taken))
--- src/lib.rt:158:8
+returns c = amount-unreadable (signed-nothing _ (c .if1 .taken))
+
 shared-slice-read-if2 : tie.Need-shared-slice-read-if2
 shared-slice-read-if2 c = search needs
 
--- src/lib.rt:159:25
 sub-negative : tie.Need-sub-negative
 sub-negative c = search needs
 
--- src/lib.rt:159:25
 part-negative-start : tie.Need-part-negative-start
 part-negative-start c = search needs
 
--- src/lib.rt:159:25
 part-negative-end : tie.Need-part-negative-end
 part-negative-end c = search needs
 
--- src/lib.rt:159:9
 negative-requires : tie.Need-negative-requires
 negative-requires c κs = search needs
 
--- src/lib.rt:159:9
 returns-2 : tie.Need-returns-2
-returns-2 c = (c .negative) .ensures ∙ sym (ap amount-of (signed-minus _ ((c .before .before .before .before .if1) .left) ((c .before .before .if2) .taken)))
--- src/lib.rt:161:5
+returns-2 c = c .negative .ensures ∙ sym (ap amount-of (signed-minus _ (c .before .before .before .before .if1 .left) (c .before .before .if2 .taken)))
+
 plain-requires : tie.Need-plain-requires
 plain-requires c κs = search needs
 
--- src/lib.rt:152:1
 returns-3 : tie.Need-returns-3
-returns-3 c = (c .plain) .ensures ∙ sym (ap amount-of (signed-plain _ ((c .before .before .before .if1) .left) ((c .before .if2) .left)))
+returns-3 c = c .plain .ensures ∙ sym (ap amount-of (signed-plain _ (c .before .before .before .if1 .left) (c .before .if2 .left)))
+
 pub read-signed-spec : {M : Type 1} → statement M
 read-signed-spec =
     tie.close
