@@ -1,6 +1,6 @@
 -- Signed 64-bit values and their texts: where the sign stands, what is written is read back, and a value has one text.
-use Prim.Native.Nat.{ℕ, zero, suc, _+_, _-_, _^_, _≤_, _<_}
-use mathlib.Core.Bool.{Bool, true, false, cond, true≢false, false≢true}
+use Prim.Native.Nat.{ℕ, zero, suc, _-_, _^_, _≤_, _<_}
+use mathlib.Core.Bool.{Bool, true, false, true≢false, false≢true}
 use mathlib.Core.List.{List, [], _∷_}
 use mathlib.Core.Option.{Option, none, some, Option·map}
 use mathlib.Core.Path.{_≡_, refl, sym, ap, ap₂, _∙_}
@@ -12,10 +12,10 @@ use lib.ListN.{length, take, drop, getD}
 use lib.Seq.{take-all}
 use lib.Signed.{mag}
 use Rattle.rules.specs.Lists.{all, member}
-use Rattle.rules.specs.Bytes.{is-digit, number, signed, below-zero, decimal, signed-text, minus}
-use Rattle.laws.specs.Tests.{split, never, and-left, or-neither}
+use Rattle.rules.specs.Bytes.{is-digit, number, signed, below-zero, decimal, signed-text}
+use Rattle.laws.specs.Tests.{split, and-left, or-neither}
 use Rattle.numerals.specs.Decimal.{decimal-digits, decimal-absent, decimal-some, decimal-fits-signed, digit-range}
-use Rattle.numerals.specs.Texts.{Numeral, numeral, number-read-back, number-one-text}
+use Rattle.numerals.specs.Texts.{numeral, number-read-back, number-one-text}
 
 unfoldable pub is-below : ℤ → Bool
 is-below (pos n) = false

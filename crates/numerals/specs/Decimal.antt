@@ -8,7 +8,7 @@ use native.Mathlib.Omega.{arith}
 use lib.Dec.{eqb, leb, ltb}
 use lib.ListN.{length, length-append}
 use Rattle.rules.specs.Lists.{all, member}
-use Rattle.rules.specs.Bytes.{is-digit, digits-value, well-led, decimal-from, decimal}
+use Rattle.rules.specs.Bytes.{tab-byte, newline, comma, minus, equals, is-digit, digits-value, well-led, decimal-from, decimal}
 use Rattle.laws.specs.Members.{member-exactly}
 use Rattle.laws.specs.Tests.{split, never, and-left, and-right, and-both, or-neither, all-append}
 
@@ -77,6 +77,27 @@ absent-digits c (b ∷ bs) n h =
 pub decimal-absent : (c v : ℕ) → is-digit c ≡ false → member c (decimal v) ≡ false
 decimal-absent c v n = absent-digits c (decimal v) n (decimal-digits v)
 
+pub tab-no-digit : is-digit tab-byte ≡ false
+unfolding is-digit
+tab-no-digit = refl
+
+pub newline-no-digit : is-digit newline ≡ false
+unfolding is-digit
+newline-no-digit = refl
+
+pub comma-no-digit : is-digit comma ≡ false
+unfolding is-digit
+comma-no-digit = refl
+
+pub minus-no-digit : is-digit minus ≡ false
+unfolding is-digit
+minus-no-digit = refl
+
+pub equals-no-digit : is-digit equals ≡ false
+unfolding is-digit
+equals-no-digit = refl
+
+-- Each is at least 48 and at most 57.
 pub digit-range : (b : ℕ) → is-digit b ≡ true → (48 ≤ b) × (b ≤ 57)
 unfolding is-digit
 digit-range b h = (leb-true 48 b (and-left (leb 48 b) (leb b 57) h), leb-true b 57 (and-right (leb 48 b) (leb b 57) h))

@@ -1,16 +1,16 @@
 -- Parts of text: how far the first part of some bytes reaches, how the search for its end goes, and what the parts are when its end is known.
-use Prim.Native.Nat.{ℕ, zero, suc, _+_, _-_, _≤_, _<_}
-use mathlib.Core.Bool.{Bool, true, false, cond}
+use Prim.Native.Nat.{ℕ, suc, _+_, _-_, _≤_, _<_}
+use mathlib.Core.Bool.{false, cond}
 use mathlib.Core.List.{List, [], _∷_, _++_}
 use mathlib.Core.Path.{_≡_, refl, sym, ap, ap₂, _∙_}
-use borrow.Author.Tests.{eq-eqb, ne-eqb, eqb-true}
+use borrow.Author.Tests.{eq-eqb, ne-eqb}
 use native.Mathlib.Numerals.{add-one}
 use native.Mathlib.Omega.{arith}
 use lib.Dec.{eqb}
 use lib.ListN.{length, take, drop, getD, length-drop, drop-of-length-le}
 use lib.Seq.{drop-cons, drop-drop}
 use Rattle.rules.specs.Lists.{member}
-use Rattle.rules.specs.Bytes.{split, onto-first}
+use Rattle.rules.specs.Bytes.{split}
 use Rattle.laws.specs.Tests as tests
 
 -- How many bytes stand before the first c: all of them where there is none.
@@ -95,21 +95,19 @@ pub split-no-find : (c : ℕ) (s : List ℕ) (i e : ℕ) → e ≡ i + until c (
 split-no-find c s i e h l = let long = length-drop i s in split-none c (drop i s) (omega arith)
 
 -- Bytes without a c are one part, and the first part of what they stand in front of.
+other-byte : (c b : ℕ) (bs : List ℕ) → member c (b ∷ bs) ≡ false → eqb b c ≡ false
+other-byte c b bs h =
+    ne-eqb b c (λ e. tests.never (eqb c b) (eq-eqb c b (sym e)) (tests.or-left (eqb c b) (member c bs) h))
+
 pub until-absent : (c : ℕ) (l : List ℕ) → member c l ≡ false → until c l ≡ length l
 unfolding until
 until-absent c [] h = refl
-until-absent c (b ∷ bs) h =
-    rw (absent-byte c b (tests.or-left (eqb c b) (member c bs) h), until-absent c bs (tests.or-right (eqb c b) (member c bs) h))
-  where
-    absent-byte : (c b : ℕ) → eqb c b ≡ false → eqb b c ≡ false
-    absent-byte c b q = tests.split (eqb b c) (λ t. tests.never (eqb c b) (eq-eqb c b (sym (eqb-true b c t))) q) (λ t. t)
+until-absent c (b ∷ bs) h = rw (other-byte c b bs h, until-absent c bs (tests.or-right (eqb c b) (member c bs) h))
 
 pub split-absent : (c : ℕ) (l : List ℕ) → member c l ≡ false → split c l ≡ l ∷ []
-split-absent c l h = split-none c l (let e = until-absent c l h in omega arith)
+split-absent c l h = let all = until-absent c l h in split-none c l (omega arith)
 
 pub split-front : (c : ℕ) (l more : List ℕ) → member c l ≡ false → split c (l ++ c ∷ more) ≡ l ∷ split c more
 unfolding split
 split-front c [] more h = rw (eq-eqb c c refl)
-split-front c (b ∷ bs) more h =
-    let other : eqb b c ≡ false = tests.split (eqb b c) (λ t. tests.never (eqb c b) (eq-eqb c b (sym (eqb-true b c t))) (tests.or-left (eqb c b) (member c bs) h)) (λ t. t) in
-    rw (other, split-front c bs more (tests.or-right (eqb c b) (member c bs) h))
+split-front c (b ∷ bs) more h = rw (other-byte c b bs h, split-front c bs more (tests.or-right (eqb c b) (member c bs) h))

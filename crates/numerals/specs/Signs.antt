@@ -1,10 +1,10 @@
 -- Signed 64-bit values as their bits give them: a value from its magnitude, is it below zero, and its magnitude. Nothing else of this crate looks at bits.
-use Prim.Native.Nat.{ℕ, zero, suc, _+_, _-_, _^_, _≤_, _<_}
+use Prim.Native.Nat.{ℕ, zero, suc, _+_, _-_, _^_, _<_}
 use mathlib.Core.Bool.{Bool, true, false, true≢false, false≢true}
 use mathlib.Core.Path.{_≡_, refl, sym, ap, subst, _∙_}
 use borrow.Author.Tests.{le-ltb}
 use native.Mathlib.Omega.{arith}
-use lib.Dec.{T, ltb}
+use lib.Dec.{T}
 use lib.IntN.{ℤ, pos, negsuc, natAbs, _-ℤ_}
 use lib.Signed.{ltZ, mag, nonNeg}
 use mir.Facts.{toZ-pos, toZ-ofZ}
@@ -67,9 +67,6 @@ module _ (z : ℤ) (f : SFits w64 z) where
   magnitude-cast h =
       subst (λ (k : ℤ). T (nonNeg k) × Fits w64 (natAbs k)) (sym (toZ-ofZ f ∙ plain-magnitude z (told h)))
       (tt, record { fits = magnitude-small z (f .sfits) })
-
-  pub magnitude-plain : natAbs (toZ w64 (ofZ w64 z)) ≡ natAbs z
-  magnitude-plain = ap natAbs (toZ-ofZ f)
 
   -- of a value below zero
   module _ (h : is-below (toZ w64 (ofZ w64 z)) ≡ true) where

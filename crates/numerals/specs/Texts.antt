@@ -1,15 +1,15 @@
 -- Numbers and their texts: what is written is read back, and a number has one text.
-use Prim.Native.Nat.{ℕ, zero, suc, _+_, _*_, _-_, _≤_, _<_}
-use mathlib.Core.Bool.{Bool, true, false, not, cond, _&&_, false≢true}
+use Prim.Native.Nat.{ℕ, _+_, _*_, _-_, _≤_, _<_}
+use mathlib.Core.Bool.{Bool, true, false, cond, _&&_, false≢true}
 use mathlib.Core.List.{List, [], _∷_, _++_, append-nil, append-assoc}
-use mathlib.Core.Option.{Option, none, some}
-use mathlib.Core.Path.{_≡_, refl, sym, ap, ap₂, _∙_}
+use mathlib.Core.Option.{none, some}
+use mathlib.Core.Path.{_≡_, refl, sym, ap, _∙_}
 use borrow.Author.Tests.{le-leb, leb-true, leb-false, eqb-false, not-true}
 use native.Mathlib.Omega.{arith}
 use lib.Dec.{eqb, leb}
 use Rattle.rules.specs.Lists.{all}
 use Rattle.rules.specs.Bytes.{is-digit, digits-value, well-led, number, decimal}
-use Rattle.laws.specs.Tests.{split, and-left, and-right, and-both}
+use Rattle.laws.specs.Tests.{split, and-left, and-right}
 use Rattle.numerals.specs.Decimal.{decimal-small, decimal-more, decimal-digits, decimal-value, decimal-well-led, digit-range}
 
 -- What is written is read back.

@@ -1,7 +1,7 @@
 -- `numerals::magnitude` meets its contract: a value below zero is mirrored at -1, which stays in the range, and its magnitude is one more. Assumes nothing.
 use mathlib.Core.Path.{sym, _∙_}
 use borrow.Author.Needs.{needs}
-use Rattle.numerals.specs.Signs.{mirrored-fits, mirrored-cast, mirrored-more, mirrored-magnitude, magnitude-cast, magnitude-plain}
+use Rattle.numerals.specs.Signs.{mirrored-fits, mirrored-cast, mirrored-more, mirrored-magnitude, magnitude-cast}
 use Rattle.numerals.proofs.magnitude.Statement.{statement}
 use Rattle.numerals.proofs.magnitude.Tie as tie
 
