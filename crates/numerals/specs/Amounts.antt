@@ -95,7 +95,7 @@ plain-some : (o : Option ℕ) (z : ℤ) → Option·map pos o ≡ some z → (n 
 plain-some none z h = let e : _≡_ {A = ℕ} 0 1 = cc in absurd (omega arith)
 plain-some (some n) z h = (n, (refl, cc))
 
--- What a value that was read is: a minus and a number above zero, or a number.
+-- What a value that was read says of its bytes.
 pub record Signed (bs : List ℕ) (z : ℤ) : Type 0 where
   pub text : bs ≡ signed-text z
   pub low : mag z < 2 ^ 63

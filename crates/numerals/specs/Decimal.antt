@@ -151,7 +151,7 @@ decimal-some v =
     by-digits (λ n l. 0 < length l) (λ d h. omega arith)
     (λ n d l p h so. let long = length-append l ((48 + d) ∷ []) in omega arith) v
 
--- A number below the n-th power of ten has at most n digits.
+-- A number below a power of ten has at most as many digits as its exponent says.
 pub decimal-length : (n v : ℕ) → v < 10 ^ suc n → length (decimal v) ≤ suc n
 decimal-length n v h =
     by-digits (λ m l. (k : ℕ) → m < 10 ^ suc k → length l ≤ suc k) (λ d low k q. omega arith)
@@ -168,7 +168,7 @@ decimal-length n v h =
 pub decimal-fits : (v : ℕ) → v < 2 ^ 64 → length (decimal v) ≤ 20
 decimal-fits v h = decimal-length 19 v (omega arith)
 
--- One digit more of room for a number and its minus.
+-- The magnitude of a signed 64-bit value leaves room for its minus.
 pub decimal-fits-signed : (v : ℕ) → v ≤ 9_223_372_036_854_775_808 → length (decimal v) ≤ 19
 decimal-fits-signed v h = decimal-length 18 v (omega arith)
 
