@@ -37,6 +37,12 @@ eight-stored l at a b c d e f g h fits =
     let seven : at + 7 ≡ suc (suc (suc (suc (suc (suc (suc at)))))) = omega arith in
     rw (one, two, three, four, five, six, seven) (stores-put (a ∷ b ∷ c ∷ d ∷ e ∷ f ∷ g ∷ h ∷ []) l at fits)
 
+-- Three lists laid in one after the other are a row.
+pub row-laid : {one two out : List ℕ} (book : List ℕ) (o : ℕ) (first reads keys : List ℕ) → one ≡ put book o first → two ≡ put one (o + 8) reads
+    → out ≡ put two (o + 16) keys → out ≡ with-row book o first reads keys
+unfolding with-row
+row-laid book o first reads keys a b c = cc
+
 -- Rows and amounts moved up by one row leave the gap.
 pub gap-opened : (book : List ℕ) (n i : ℕ) → put book (waiting-row i + 24) (cut (waiting-row i) (24 * (n - i)) book) ≡ gap-book book n i
 unfolding gap-book

@@ -37,11 +37,6 @@ word : Bool → ℕ
 word true = 4
 word false = 5
 
-word-low : (agrees : Bool) → 3 < word agrees
-unfolding word
-word-low true = omega arith
-word-low false = omega arith
-
 word-high : (agrees : Bool) → word agrees < 6
 unfolding word
 word-high true = omega arith

@@ -1,6 +1,6 @@
 -- The three lists laid in, each over what the one before left, are the row.
 use borrow.Author.Needs.{needs}
-use Rattle.tables.specs.NewRow.{with-row}
+use Rattle.joining.specs.Stores.{row-laid}
 use Rattle.joining.proofs.lay_row.Statement.{statement}
 use Rattle.joining.proofs.lay_row.Tie as tie
 
@@ -29,8 +29,10 @@ same-length : tie.Need-same-length
 same-length c = search needs
 
 returns : tie.Need-returns
-unfolding with-row
-returns c = cc
+returns c =
+    let laid = c .before .before in
+    let first = laid .before .before .before .before in
+    row-laid _ _ _ _ _ (first .before .before .before .before .store-first .ensures) (first .lay .ensures) (laid .lay2 .ensures)
 
 pub lay-row-spec : {M : Type 1} → statement M
 lay-row-spec =

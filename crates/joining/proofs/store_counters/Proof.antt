@@ -7,7 +7,7 @@ use Rattle.joining.proofs.store_counters.Statement.{statement}
 use Rattle.joining.proofs.store_counters.Tie as tie
 
 slice-write-book : tie.Need-slice-write-book
-slice-write-book c = search needs
+slice-write-book c = omega arith
 
 slice-write-book-2 : tie.Need-slice-write-book-2
 slice-write-book-2 c = simp length-set (omega arith)

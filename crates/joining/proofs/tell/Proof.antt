@@ -7,22 +7,22 @@ use Rattle.joining.proofs.tell.Statement.{statement}
 use Rattle.joining.proofs.tell.Tie as tie
 
 mul-fin : tie.Need-mul-fin
-mul-fin c = search needs
+mul-fin c = omega arith
 
 mul-fin-2 : tie.Need-mul-fin-2
-mul-fin-2 c = search needs
+mul-fin-2 c = omega arith
 
 slice-write-fin : tie.Need-slice-write-fin
-slice-write-fin c = search needs
+slice-write-fin c = omega arith
 
 mul-fin-3 : tie.Need-mul-fin-3
-mul-fin-3 c = search needs
+mul-fin-3 c = omega arith
 
 add-fin : tie.Need-add-fin
-add-fin c = search needs
+add-fin c = omega arith
 
 mul-fin-4 : tie.Need-mul-fin-4
-mul-fin-4 c = search needs
+mul-fin-4 c = omega arith
 
 slice-write-fin-2 : tie.Need-slice-write-fin-2
 slice-write-fin-2 c = simp length-set (omega arith)
