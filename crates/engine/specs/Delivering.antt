@@ -155,7 +155,7 @@ module _ (identity set st : ℕ) (reads keys : List ℕ) (amounts : List ℤ) (b
   abbrev pub desk-at : Fate → Desk
   desk-at f = delivery-desk f identity set st (c .dc + c .k) reads keys amounts book sums fin
 
-  within : (i : ℕ) → the-fate ≡ join i → i ≤ n
+  pub within : (i : ℕ) → the-fate ≡ join i → i ≤ n
   within i q =
       let low = place-within c t (waiting-view n book sums) (books-view sc book sums) i (the-fate-is ∙ q) in
       omega (arith, length-waiting n book sums)

@@ -1,5 +1,9 @@
 pub mod Answers
 pub mod Delivering
 pub mod Voting
+pub mod Judging
 pub mod Operations
+pub mod Acting
+pub mod Taking
+pub mod Storing
 pub mod Meanings
