@@ -6,4 +6,6 @@ pub mod Operations
 pub mod Acting
 pub mod Taking
 pub mod Storing
+pub mod Public
+pub mod Reads
 pub mod Meanings

@@ -67,7 +67,7 @@ module _ (book : List ℕ) (sums : List ℤ) (fin : List ℕ) (h : Lent book sum
   few = let fits = h .sound .list-fits in omega (arith, length-waiting n book sums)
 
   -- A change: the tables as they are, under the new k.
-  change-ready : (k : ℕ) → refusal (change k) (view book sums) ≡ none → Ready (with-k k (clock-view book)) (desk-before book sums fin)
+  pub change-ready : (k : ℕ) → refusal (change k) (view book sums) ≡ none → Ready (with-k k (clock-view book)) (desk-before book sums fin)
   unfolding desk-before with-k clock-view view
   change-ready k q =
       let room = h .room in
@@ -124,7 +124,7 @@ module _ (book : List ℕ) (sums : List ℤ) (fin : List ℕ) (h : Lent book sum
     unfolding view
     before-closing = voted-sound identity p (ballot agrees) (view book sums) q (h .sound)
 
-    vote-ready : Ready (clock-view book) d
+    pub vote-ready : Ready (clock-view book) d
     unfolding voted-desk clock-view
     vote-ready =
         let room = h .room in
