@@ -1,0 +1,37 @@
+use borrow.Author.Needs.{needs}
+use Rattle.refusing.proofs.read_number.Statement.{statement}
+use Rattle.refusing.proofs.read_number.Tie as tie
+use Rattle.refusing.proofs.read_number.Reads as reads
+use Rattle.refusing.proofs.read_number.Lts as lts
+use Rattle.refusing.proofs.is_unusable.Reads as is-unusable-reads
+use Rattle.refusing.proofs.read_refusal.Reads as read-refusal-reads
+
+-- src/lib.rt:253:8
+is-unusable-requires : tie.Need-is-unusable-requires
+is-unusable-requires c κs = search needs
+
+-- src/lib.rt:254:9
+returns : tie.Need-returns
+returns c = ?
+
+-- src/lib.rt:256:27
+shared-slice-read-read-refusal : tie.Need-shared-slice-read-read-refusal
+shared-slice-read-read-refusal c = ?
+
+-- src/lib.rt:256:5
+read-refusal-requires : tie.Need-read-refusal-requires
+read-refusal-requires c κs = search needs
+
+-- src/lib.rt:250:1
+returns-2 : tie.Need-returns-2
+returns-2 c = ?
+
+pub read-number-spec : {M : Type 1} → statement M
+read-number-spec =
+    tie.close
+    (tie.spec
+    is-unusable-requires
+    returns
+    shared-slice-read-read-refusal
+    read-refusal-requires
+    returns-2)

@@ -1,0 +1,67 @@
+use Rattle.refusing.proofs.row_of.Statement.{statement}
+use Rattle.refusing.proofs.row_of.Tie as tie
+use Rattle.refusing.proofs.row_of.Reads as reads
+use Rattle.refusing.proofs.row_of.Lts as lts
+
+abbrev Inv-loop : tie.InvT-loop
+Inv-loop book n identity i₀ i = ?
+
+abbrev μ-loop : tie.MeasureT-loop
+μ-loop book n identity i₀ i = ?
+
+-- src/lib.rt:105:5
+loop-holds : tie.Need-loop-holds Inv-loop μ-loop
+loop-holds c = ?
+
+-- src/lib.rt:106:28
+mul-if1 : tie.Need-mul-if1 Inv-loop μ-loop
+mul-if1 c = ?
+
+-- src/lib.rt:106:17
+add-if1 : tie.Need-add-if1 Inv-loop μ-loop
+add-if1 c = ?
+
+-- src/lib.rt:106:12
+mul-if1-2 : tie.Need-mul-if1-2 Inv-loop μ-loop
+mul-if1-2 c = ?
+
+-- src/lib.rt:106:12
+shared-slice-read-if1 : tie.Need-shared-slice-read-if1 Inv-loop μ-loop
+shared-slice-read-if1 c = ?
+
+-- src/lib.rt:107:13
+returns : tie.Need-returns Inv-loop μ-loop
+returns c = ?
+
+-- src/lib.rt:109:9
+add-i : tie.Need-add-i Inv-loop μ-loop
+add-i c = ?
+
+-- src/lib.rt:105:5
+loop-less : tie.Need-loop-less Inv-loop μ-loop
+loop-less c = ?
+
+-- src/lib.rt:105:5
+loop-again : tie.Need-loop-again Inv-loop μ-loop
+loop-again c = ?
+
+-- src/lib.rt:99:1
+returns-2 : tie.Need-returns-2 Inv-loop μ-loop
+returns-2 c = ?
+
+pub row-of-spec : {M : Type 1} → statement M
+row-of-spec =
+    tie.close
+    (tie.spec
+    Inv-loop
+    μ-loop
+    loop-holds
+    mul-if1
+    add-if1
+    mul-if1-2
+    shared-slice-read-if1
+    returns
+    add-i
+    loop-less
+    loop-again
+    returns-2)
