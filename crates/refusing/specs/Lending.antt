@@ -154,6 +154,11 @@ module _ (partitions own k : ℕ) (book : List ℕ) (sums : List ℤ) where
   unfolding opening-number
   opening-short h = rw h
 
-  pub opening-decided : short book sums ≡ false → {answer : Bool} → answer ≡ sizes-fit partitions own k → cond (not answer) 13 0 ≡ opening-number partitions own k book sums
-  unfolding opening-number
-  opening-decided h e = rw (h, e)
+  module _ (long : short book sums ≡ false) {answer : Bool} (says : answer ≡ sizes-fit partitions own k) where
+    pub opening-unfit : not answer ≡ true → 13 ≡ opening-number partitions own k book sums
+    unfolding opening-number
+    opening-unfit h = rw (long, ← says, h)
+
+    pub opening-taken : not answer ≡ false → 0 ≡ opening-number partitions own k book sums
+    unfolding opening-number
+    opening-taken h = rw (long, ← says, h)

@@ -7,3 +7,4 @@ pub mod Lending
 pub mod Snapshots
 pub mod Deliveries
 pub mod Votes
+pub mod Ways

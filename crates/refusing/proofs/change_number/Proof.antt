@@ -1,3 +1,4 @@
+use Rattle.refusing.specs.Ways.{change-lent, change-beyond, change-taken}
 use borrow.Author.Needs.{needs}
 use Rattle.refusing.proofs.change_number.Statement.{statement}
 use Rattle.refusing.proofs.change_number.Tie as tie
@@ -11,15 +12,12 @@ lending-number-requires c κs = search needs
 
 -- src/lib.rt:241:9
 returns : tie.Need-returns
-returns c = ?
-
+returns c = change-lent _ _ _ ((c .before .lending-number) .ensures) _ ((c .if1) .taken)
 -- src/lib.rt:244:9
 returns-2 : tie.Need-returns-2
-returns-2 c = ?
-
+returns-2 c = change-beyond _ _ _ ((c .before .before .lending-number) .ensures) ((c .before .if1) .left) _ ((c .if2) .taken)
 -- src/lib.rt:236:1
 returns-3 : tie.Need-returns-3
-returns-3 c = ?
-
+returns-3 c = change-taken _ _ _ ((c .before .before .lending-number) .ensures) ((c .before .if1) .left) _ ((c .if2) .left)
 pub change-number-spec : {M : Type 1} → statement M
 change-number-spec = tie.close (tie.spec lending-number-requires returns returns-2 returns-3)
