@@ -13,7 +13,7 @@ ghost use Rattle.tables.specs.Layout.{book-words, waiting-row};
 ghost use Rattle.refusing.specs.Operands.{short, delivery-number, vote-number, change-number, read-number, opening-number, index-of};
 ghost use Rattle.refusing.specs.Lending.{Sized, unusable, lending-number};
 ghost use Rattle.refusing.specs.Snapshots.{snapshot-number, read-words};
-ghost use Rattle.refusing.specs.Deliveries.{late, delivery-words};
+ghost use Rattle.refusing.specs.Deliveries.{late, operand-number, delivery-words};
 ghost use Rattle.refusing.specs.Votes.{vote-words};
 
 // The counters, by their places in the book.
@@ -129,19 +129,12 @@ fn late_number(st: u32, book: &[u32]) -> u32
     0
 }
 
-// A delivery's numbers, on tables that are sound.
-fn delivery_refusal(
-    identity: u32,
-    set: u32,
-    st: u32,
-    reads: &[u32],
-    keys: &[u32],
-    book: &[u32],
-) -> u32
-    requires { ⌜ Sized (now book) ⌝ }
-    ensures { λ r. ⌜ r ≡ delivery-words identity set st (now (reads .entry)) (now (keys .entry)) (now (book .entry)) ⌝ }
+// A delivery's numbers 1 to 3, of what is lent with it.
+fn operand_number(partitions: u32, own: u32, set: u32, reads: &[u32], keys: &[u32]) -> u32
+    requires { ⌜ partitions ≤ 8 ⌝ }
+    ensures { λ r. ⌜ r ≡ operand-number partitions own set (now (reads .entry)) (now (keys .entry)) ⌝ }
 {
-    if masks::is_bad_set(set, book[PARTITIONS], book[OWN]) {
+    if masks::is_bad_set(set, partitions, own) {
         return 1;
     }
     if MOST_KEYS < reads.len() {
@@ -155,6 +148,25 @@ fn delivery_refusal(
     }
     if keys::is_bad(keys) {
         return 3;
+    }
+    0
+}
+
+// A delivery's numbers, on tables that are sound.
+fn delivery_refusal(
+    identity: u32,
+    set: u32,
+    st: u32,
+    reads: &[u32],
+    keys: &[u32],
+    book: &[u32],
+) -> u32
+    requires { ⌜ Sized (now book) ⌝ }
+    ensures { λ r. ⌜ r ≡ delivery-words identity set st (now (reads .entry)) (now (keys .entry)) (now (book .entry)) ⌝ }
+{
+    let refused = operand_number(book[PARTITIONS], book[OWN], set, reads, keys);
+    if refused != 0 {
+        return refused;
     }
     if identity == 0 {
         return 4;

@@ -1,99 +1,78 @@
+use Rattle.refusing.specs.Operands.{waiting-identities}
+use Rattle.refusing.specs.Deliveries.{operands-refused, identity-zero, waits-now, late-decides}
 use borrow.Author.Needs.{needs}
 use Rattle.refusing.proofs.delivery_refusal.Statement.{statement}
 use Rattle.refusing.proofs.delivery_refusal.Tie as tie
 use Rattle.refusing.proofs.delivery_refusal.Reads as reads
 use Rattle.refusing.proofs.delivery_refusal.Lts as lts
-use Rattle.keys.proofs.is_bad.Reads as is-bad-reads
-use Rattle.masks.proofs.is_bad_set.Reads as is-bad-set-reads
 use Rattle.refusing.proofs.late_number.Reads as late-number-reads
+use Rattle.refusing.proofs.operand_number.Reads as operand-number-reads
 use Rattle.refusing.proofs.row_of.Reads as row-of-reads
 
--- src/lib.rt:144:31
-shared-slice-read-is-bad-set : tie.Need-shared-slice-read-is-bad-set
-shared-slice-read-is-bad-set c = search needs
+-- src/lib.rt:167:34
+shared-slice-read-operand-number : tie.Need-shared-slice-read-operand-number
+shared-slice-read-operand-number c = search needs
 
--- src/lib.rt:144:49
-shared-slice-read-is-bad-set-2 : tie.Need-shared-slice-read-is-bad-set-2
-shared-slice-read-is-bad-set-2 c = search needs
+-- src/lib.rt:167:52
+shared-slice-read-operand-number-2 : tie.Need-shared-slice-read-operand-number-2
+shared-slice-read-operand-number-2 c = search needs
 
--- src/lib.rt:144:8
-is-bad-set-requires : tie.Need-is-bad-set-requires
-is-bad-set-requires c κs = search needs
+-- src/lib.rt:167:9
+operand-number-requires : tie.Need-operand-number-requires
+operand-number-requires c κs = search needs
 
--- src/lib.rt:145:9
+-- src/lib.rt:169:9
 returns : tie.Need-returns
-returns c = ?
+returns c = operands-refused _ _ _ _ _ _ (c .before .operand-number .ensures) (c .if1 .taken)
 
--- src/lib.rt:148:9
+-- src/lib.rt:172:9
 returns-2 : tie.Need-returns-2
-returns-2 c = ?
+returns-2 c = identity-zero _ _ _ _ _ _ (c .before .before .operand-number .ensures) (c .before .if1 .left) (c .if2 .taken)
 
--- src/lib.rt:151:9
-returns-3 : tie.Need-returns-3
-returns-3 c = ?
-
--- src/lib.rt:153:8
-is-bad-requires : tie.Need-is-bad-requires
-is-bad-requires c κs = search needs
-
--- src/lib.rt:154:9
-returns-4 : tie.Need-returns-4
-returns-4 c = ?
-
--- src/lib.rt:156:8
-is-bad-requires-2 : tie.Need-is-bad-requires-2
-is-bad-requires-2 c κs = search needs
-
--- src/lib.rt:157:9
-returns-5 : tie.Need-returns-5
-returns-5 c = ?
-
--- src/lib.rt:160:9
-returns-6 : tie.Need-returns-6
-returns-6 c = ?
-
--- src/lib.rt:162:13
+-- src/lib.rt:174:13
 shared-slice-read-n : tie.Need-shared-slice-read-n
 shared-slice-read-n c = search needs
 
--- src/lib.rt:162:13
+-- src/lib.rt:174:13
 cast-n : tie.Need-cast-n
 cast-n c = search needs
 
--- src/lib.rt:163:8
+-- src/lib.rt:175:8
 row-of-requires : tie.Need-row-of-requires
 row-of-requires c κs = search needs
 
--- src/lib.rt:164:9
-returns-7 : tie.Need-returns-7
-returns-7 c = ?
+-- src/lib.rt:176:9
+returns-3 : tie.Need-returns-3
+unfolding waiting-identities
+returns-3 c = 
+    let identity = c .before .before .before in
+    waits-now _ _ _ _ _ _ (identity .before .before .operand-number .ensures) (identity .before .if1 .left) (identity .if2 .left) (c .before .row-of .ensures) (c .if3 .taken)
 
--- src/lib.rt:166:5
+-- src/lib.rt:178:5
 late-number-requires : tie.Need-late-number-requires
 late-number-requires c κs = search needs
 
--- src/lib.rt:133:1
-returns-8 : tie.Need-returns-8
-returns-8 c = ?
+-- src/lib.rt:156:1
+returns-4 : tie.Need-returns-4
+unfolding waiting-identities
+returns-4 c = 
+    let row = c .before in
+    let identity = row .before .before .before in
+    late-decides _ _ _ _ _ _ (identity .before .before .operand-number .ensures) (identity .before .if1 .left) (identity .if2 .left) (row .before .row-of .ensures)
+    (row .if3 .left) (c .late-number .ensures)
 
 pub delivery-refusal-spec : {M : Type 1} → statement M
 delivery-refusal-spec =
     tie.close
     (tie.spec
-    shared-slice-read-is-bad-set
-    shared-slice-read-is-bad-set-2
-    is-bad-set-requires
+    shared-slice-read-operand-number
+    shared-slice-read-operand-number-2
+    operand-number-requires
     returns
     returns-2
-    returns-3
-    is-bad-requires
-    returns-4
-    is-bad-requires-2
-    returns-5
-    returns-6
     shared-slice-read-n
     cast-n
     row-of-requires
-    returns-7
+    returns-3
     late-number-requires
-    returns-8)
+    returns-4)

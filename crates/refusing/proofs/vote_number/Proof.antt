@@ -1,3 +1,5 @@
+use Rattle.refusing.specs.Lending.{lent-usable}
+use Rattle.refusing.specs.Ways.{vote-lent, vote-ruled}
 use borrow.Author.Needs.{needs}
 use Rattle.refusing.proofs.vote_number.Statement.{statement}
 use Rattle.refusing.proofs.vote_number.Tie as tie
@@ -12,15 +14,15 @@ lending-number-requires c κs = search needs
 
 -- src/lib.rt:231:9
 returns : tie.Need-returns
-returns c = ?
+returns c = vote-lent _ _ _ (c .before .lending-number .ensures) _ _ _ (c .if1 .taken)
 
 -- src/lib.rt:233:5
 vote-refusal-requires : tie.Need-vote-refusal-requires
-vote-refusal-requires c κs = ?
+vote-refusal-requires c κs = lent-usable _ _ _ (c .before .lending-number .ensures) (c .if1 .left) .sized
 
 -- src/lib.rt:226:1
 returns-2 : tie.Need-returns-2
-returns-2 c = ?
+returns-2 c = vote-ruled _ _ _ (c .before .before .lending-number .ensures) (c .before .if1 .left) _ _ _ (c .vote-refusal .ensures)
 
 pub vote-number-spec : {M : Type 1} → statement M
 vote-number-spec =

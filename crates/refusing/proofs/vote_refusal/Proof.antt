@@ -1,3 +1,7 @@
+use borrow.Author.Tests.{not-true, not-false}
+use mathlib.Core.Path.{sym, _∙_}
+use Rattle.refusing.specs.Operands.{waiting-identities}
+use Rattle.refusing.specs.Votes.{none-waits, not-involved, said-yes, said-no, vote-taken}
 use borrow.Author.Needs.{needs}
 use Rattle.refusing.proofs.vote_refusal.Statement.{statement}
 use Rattle.refusing.proofs.vote_refusal.Tie as tie
@@ -21,7 +25,8 @@ row-of-requires c κs = search needs
 
 -- src/lib.rt:177:9
 returns : tie.Need-returns
-returns c = ?
+unfolding waiting-identities
+returns c = none-waits _ _ _ (c .before .row-of .ensures) (c .if1 .taken)
 
 -- src/lib.rt:179:24
 mul-o : tie.Need-mul-o
@@ -53,7 +58,10 @@ is-other-requires c κs = search needs
 
 -- src/lib.rt:182:9
 returns-2 : tie.Need-returns-2
-returns-2 c = ?
+unfolding waiting-identities
+returns-2 c = 
+    let row = c .before .before .before .before in
+    not-involved _ _ _ (row .before .row-of .ensures) (row .if1 .left) (sym (c .before .is-other .ensures) ∙ not-true _ (c .if2 .taken))
 
 -- src/lib.rt:184:24
 add-has : tie.Need-add-has
@@ -73,7 +81,12 @@ has-requires c κs = search needs
 
 -- src/lib.rt:185:9
 returns-3 : tie.Need-returns-3
-returns-3 c = ?
+unfolding waiting-identities
+returns-3 c = 
+    let other = c .before .before .before in
+    let row = other .before .before .before .before in
+    said-yes _ _ _ (row .before .row-of .ensures) (row .if1 .left) (sym (other .before .is-other .ensures) ∙ not-false _ (other .if2 .left))
+    (sym (c .before .has .ensures) ∙ c .if3 .taken)
 
 -- src/lib.rt:187:24
 add-has-2 : tie.Need-add-has-2
@@ -93,11 +106,23 @@ has-requires-2 c κs = search needs
 
 -- src/lib.rt:188:9
 returns-4 : tie.Need-returns-4
-returns-4 c = ?
+unfolding waiting-identities
+returns-4 c = 
+    let yes-heard = c .before .before .before in
+    let other = yes-heard .before .before .before in
+    let row = other .before .before .before .before in
+    said-no _ _ _ (row .before .row-of .ensures) (row .if1 .left) (sym (other .before .is-other .ensures) ∙ not-false _ (other .if2 .left))
+    (sym (yes-heard .before .has .ensures) ∙ yes-heard .if3 .left) (sym (c .before .has2 .ensures) ∙ c .if4 .taken)
 
 -- src/lib.rt:170:1
 returns-5 : tie.Need-returns-5
-returns-5 c = ?
+unfolding waiting-identities
+returns-5 c = 
+    let yes-heard = c .before .before .before in
+    let other = yes-heard .before .before .before in
+    let row = other .before .before .before .before in
+    vote-taken _ _ _ (row .before .row-of .ensures) (row .if1 .left) (sym (other .before .is-other .ensures) ∙ not-false _ (other .if2 .left))
+    (sym (yes-heard .before .has .ensures) ∙ yes-heard .if3 .left) (sym (c .before .has2 .ensures) ∙ c .if4 .left)
 
 pub vote-refusal-spec : {M : Type 1} → statement M
 vote-refusal-spec =
