@@ -3,10 +3,10 @@
 use Prim.Native.Nat.{ℕ, _/_, _≤_, _<_}
 use mathlib.Core.Bool.{Bool, true, false, not, cond, _||_}
 use mathlib.Core.List.{List}
-use mathlib.Core.Path.{_≡_, refl, sym, ap, _∙_}
+use mathlib.Core.Path.{_≡_, _∙_}
 use native.Mathlib.Omega.{arith}
-use borrow.Author.Tests.{lt-ltb, le-ltb, ltb-false, not-false, not-true, ne-eqb, eq-eqb}
-use lib.Dec.{eqb, ltb}
+use borrow.Author.Tests.{lt-ltb, le-ltb, ltb-false, not-false, not-true}
+use lib.Dec.{ltb}
 use lib.IntN.{ℤ}
 use lib.ListN.{length, getD}
 use Rattle.rules.specs.Sizes.{most-partitions, most-waiting}
@@ -14,7 +14,7 @@ use Rattle.rules.specs.Ledger.{sizes-fit}
 use Rattle.rules.specs.Soundness.{sound}
 use Rattle.rules.specs.Events.{Event}
 use Rattle.rules.specs.Refusals.{refusal, too-little-room}
-use Rattle.laws.specs.Tests.{split, never, or-left, or-right, or-first, or-second, or-cases}
+use Rattle.laws.specs.Tests.{split, never, or-left, or-right}
 use Rattle.tables.specs.Layout.{book-words, sums-words, partitions-at, waiting-at}
 use Rattle.tables.specs.View.{view}
 use Rattle.checking.specs.SoundTables.{sound-tables}

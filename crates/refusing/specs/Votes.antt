@@ -1,17 +1,17 @@
 -- A vote's numbers, 9 to 11, on the words of one row. The rules ask every waiting entry of the identity; identities differ, so that is one row.
 use Prim.Native.Nat.{ℕ, zero, suc, _+_, _≤_, _<_}
 use mathlib.Core.Bool.{Bool, true, false, not, cond, _&&_, _||_}
-use mathlib.Core.List.{List, [], _∷_}
-use mathlib.Core.Path.{_≡_, refl, sym, ap, _∙_, subst}
+use mathlib.Core.List.{List}
+use mathlib.Core.Path.{_≡_, refl, sym, _∙_, subst}
 use native.Mathlib.Omega.{arith}
 use borrow.Author.Tests.{eq-eqb, ne-eqb, eqb-false, le-leb, lt-leb, ltb-false, not-true}
-use lib.Dec.{eqb, leb, ltb}
+use lib.Dec.{eqb, leb}
 use lib.IntN.{ℤ}
 use lib.ListN.{getD}
 use Rattle.rules.specs.Lists.{any, member}
 use Rattle.rules.specs.Partitions.{Ballot, names, other, heard-from}
 use Rattle.rules.specs.Ledger.{Entry}
-use Rattle.rules.specs.Soundness.{sound, different, identities}
+use Rattle.rules.specs.Soundness.{sound, different}
 use Rattle.rules.specs.Events.{vote}
 use Rattle.rules.specs.Refusals.{is-for, waits-for, refusal, checks, vote-checks}
 use Rattle.laws.specs.Tests.{split, never, and-left, and-right, or-left, or-right, or-first, or-second}
@@ -115,7 +115,7 @@ module _ (book : List ℕ) (sums : List ℤ) where
     asked t =
         let n = getD book waiting-at 0 in
         let unlike = subst (λ (l : List ℕ). different l ≡ true) (map-tab (λ (e : Entry). e .transaction .identity) n (entry-at book sums))
-            (sound-tables book sums whole .state .apart) in
+        (sound-tables book sums whole .state .apart) in
         any-only (λ (e : Entry). e .transaction .identity) t x n (entry-at book sums) i unlike low its
 
   pub vote-same : sound (view book sums) ≡ true → (x p : ℕ) (b : Ballot) → vote-words x p book ≡ number-of (refusal (vote x p b) (view book sums))

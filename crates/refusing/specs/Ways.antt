@@ -1,5 +1,5 @@
 -- The operations: each way out of the tests gives the number that refuses, first by what is lent, then by the rules.
-use Prim.Native.Nat.{ℕ, _/_, _≤_, _<_}
+use Prim.Native.Nat.{ℕ, _≤_, _<_}
 use mathlib.Core.Bool.{Bool, true, false, not, _||_}
 use mathlib.Core.List.{List}
 use mathlib.Core.Path.{_≡_, refl, ap, _∙_}
@@ -10,7 +10,7 @@ use lib.ListN.{length, getD}
 use Rattle.rules.specs.Sizes.{most-k}
 use Rattle.rules.specs.Events.{delivery, vote, change, read, Snapshot, snapshot}
 use Rattle.rules.specs.Refusals.{too-little-room}
-use Rattle.laws.specs.Tests.{or-first, or-second, or-neither}
+use Rattle.laws.specs.Tests.{or-first, or-neither}
 use Rattle.tables.specs.Layout.{sc-at}
 use Rattle.tables.specs.View.{view}
 use Rattle.tables.specs.Voted.{ballot}

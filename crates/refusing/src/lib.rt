@@ -76,8 +76,8 @@ fn lending_number(book: &[u32], sums: &[i64], words: usize) -> u32
     if words < ROOM {
         return 15;
     }
-    if is_unusable(book, sums) {
-        return 13;
+    if is_unusable(book, sums) { // behind 15: too little room is refused whatever the tables hold
+        return 13; // they are too short, or not sound
     }
     0
 }
@@ -235,7 +235,14 @@ pub fn delivery_number(
     delivery_refusal(identity, set, st, reads, keys, book)
 }
 
-pub fn vote_number(identity: u32, p: u32, agrees: bool, book: &[u32], sums: &[i64], words: usize) -> u32
+pub fn vote_number(
+    identity: u32,
+    p: u32,
+    agrees: bool,
+    book: &[u32],
+    sums: &[i64],
+    words: usize,
+) -> u32
     ensures { λ r. ⌜ r ≡ vote-number identity p agrees (now (book .entry)) (now (sums .entry)) words ⌝ }
 {
     let refused = lending_number(book, sums, words);

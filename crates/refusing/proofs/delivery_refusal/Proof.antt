@@ -1,65 +1,53 @@
+-- `refusing::delivery_refusal` meets its contract: each test that holds gives its number behind those that don't; an identity waits if its row is among
+-- those of the waiting list. Assumes nothing.
+use native.Mathlib.Omega.{arith}
+use borrow.Author.Needs.{needs}
 use Rattle.refusing.specs.Operands.{waiting-identities}
 use Rattle.refusing.specs.Deliveries.{operands-refused, identity-zero, waits-now, late-decides}
-use borrow.Author.Needs.{needs}
 use Rattle.refusing.proofs.delivery_refusal.Statement.{statement}
 use Rattle.refusing.proofs.delivery_refusal.Tie as tie
-use Rattle.refusing.proofs.delivery_refusal.Reads as reads
-use Rattle.refusing.proofs.delivery_refusal.Lts as lts
-use Rattle.refusing.proofs.late_number.Reads as late-number-reads
-use Rattle.refusing.proofs.operand_number.Reads as operand-number-reads
-use Rattle.refusing.proofs.row_of.Reads as row-of-reads
 
--- src/lib.rt:167:34
 shared-slice-read-operand-number : tie.Need-shared-slice-read-operand-number
-shared-slice-read-operand-number c = search needs
+shared-slice-read-operand-number c = omega arith
 
--- src/lib.rt:167:52
 shared-slice-read-operand-number-2 : tie.Need-shared-slice-read-operand-number-2
-shared-slice-read-operand-number-2 c = search needs
+shared-slice-read-operand-number-2 c = omega arith
 
--- src/lib.rt:167:9
 operand-number-requires : tie.Need-operand-number-requires
 operand-number-requires c κs = search needs
 
--- src/lib.rt:169:9
 returns : tie.Need-returns
 returns c = operands-refused _ _ _ _ _ _ (c .before .operand-number .ensures) (c .if1 .taken)
 
--- src/lib.rt:172:9
 returns-2 : tie.Need-returns-2
 returns-2 c = identity-zero _ _ _ _ _ _ (c .before .before .operand-number .ensures) (c .before .if1 .left) (c .if2 .taken)
 
--- src/lib.rt:174:13
 shared-slice-read-n : tie.Need-shared-slice-read-n
-shared-slice-read-n c = search needs
+shared-slice-read-n c = omega arith
 
--- src/lib.rt:174:13
 cast-n : tie.Need-cast-n
-cast-n c = search needs
+cast-n c = omega arith
 
--- src/lib.rt:175:8
 row-of-requires : tie.Need-row-of-requires
 row-of-requires c κs = search needs
 
--- src/lib.rt:176:9
 returns-3 : tie.Need-returns-3
 unfolding waiting-identities
-returns-3 c = 
+returns-3 c =
     let identity = c .before .before .before in
-    waits-now _ _ _ _ _ _ (identity .before .before .operand-number .ensures) (identity .before .if1 .left) (identity .if2 .left) (c .before .row-of .ensures) (c .if3 .taken)
+    waits-now _ _ _ _ _ _ (identity .before .before .operand-number .ensures) (identity .before .if1 .left) (identity .if2 .left)
+    (c .before .row-of .ensures) (c .if3 .taken)
 
--- src/lib.rt:178:5
 late-number-requires : tie.Need-late-number-requires
 late-number-requires c κs = search needs
 
--- src/lib.rt:156:1
 returns-4 : tie.Need-returns-4
 unfolding waiting-identities
-returns-4 c = 
+returns-4 c =
     let row = c .before in
     let identity = row .before .before .before in
-    late-decides _ _ _ _ _ _ (identity .before .before .operand-number .ensures) (identity .before .if1 .left) (identity .if2 .left) (row .before .row-of .ensures)
-    (row .if3 .left) (c .late-number .ensures)
+    late-decides _ _ _ _ _ _ (identity .before .before .operand-number .ensures) (identity .before .if1 .left) (identity .if2 .left)
+    (row .before .row-of .ensures) (row .if3 .left) (c .late-number .ensures)
 
 pub delivery-refusal-spec : {M : Type 1} → statement M
 delivery-refusal-spec =

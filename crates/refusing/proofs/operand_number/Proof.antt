@@ -1,61 +1,50 @@
+-- `refusing::operand_number` meets its contract: each test that holds gives its number behind those that don't; two tests share the number 2, and two the number 3.
+-- Assumes nothing.
 use mathlib.Core.Path.{sym, _∙_}
-use Rattle.refusing.specs.Deliveries.{set-refused, many-reads, many-keys, reads-refused, keys-refused, operands-taken}
 use borrow.Author.Needs.{needs}
+use Rattle.refusing.specs.Deliveries.{set-refused, many-reads, many-keys, reads-refused, keys-refused, operands-taken}
 use Rattle.refusing.proofs.operand_number.Statement.{statement}
 use Rattle.refusing.proofs.operand_number.Tie as tie
-use Rattle.refusing.proofs.operand_number.Reads as reads
-use Rattle.refusing.proofs.operand_number.Lts as lts
-use Rattle.keys.proofs.is_bad.Reads as is-bad-reads
-use Rattle.masks.proofs.is_bad_set.Reads as is-bad-set-reads
 
--- src/lib.rt:137:8
 is-bad-set-requires : tie.Need-is-bad-set-requires
 is-bad-set-requires c κs = search needs
 
--- src/lib.rt:138:9
 returns : tie.Need-returns
 returns c = set-refused _ _ _ _ _ (sym (c .before .is-bad-set .ensures) ∙ c .if1 .taken)
 
--- src/lib.rt:141:9
 returns-2 : tie.Need-returns-2
-returns-2 c = 
+returns-2 c =
     let set = c .before in
     many-reads _ _ _ _ _ (sym (set .before .is-bad-set .ensures) ∙ set .if1 .left) (c .if2 .taken)
 
--- src/lib.rt:144:9
 returns-3 : tie.Need-returns-3
-returns-3 c = 
+returns-3 c =
     let set = c .before .before in
     many-keys _ _ _ _ _ (sym (set .before .is-bad-set .ensures) ∙ set .if1 .left) (c .before .if2 .left) (c .if3 .taken)
 
--- src/lib.rt:146:8
 is-bad-requires : tie.Need-is-bad-requires
 is-bad-requires c κs = search needs
 
--- src/lib.rt:147:9
 returns-4 : tie.Need-returns-4
-returns-4 c = 
+returns-4 c =
     let lengths = c .before .before in
     let set = lengths .before .before in
     reads-refused _ _ _ _ _ (sym (set .before .is-bad-set .ensures) ∙ set .if1 .left) (lengths .before .if2 .left) (lengths .if3 .left)
     (sym (c .before .is-bad .ensures) ∙ c .if4 .taken)
 
--- src/lib.rt:149:8
 is-bad-requires-2 : tie.Need-is-bad-requires-2
 is-bad-requires-2 c κs = search needs
 
--- src/lib.rt:150:9
 returns-5 : tie.Need-returns-5
-returns-5 c = 
+returns-5 c =
     let reads = c .before .before in
     let lengths = reads .before .before in
     let set = lengths .before .before in
     keys-refused _ _ _ _ _ (sym (set .before .is-bad-set .ensures) ∙ set .if1 .left) (lengths .before .if2 .left) (lengths .if3 .left)
     (sym (reads .before .is-bad .ensures) ∙ reads .if4 .left) (sym (c .before .is-bad2 .ensures) ∙ c .if5 .taken)
 
--- src/lib.rt:133:1
 returns-6 : tie.Need-returns-6
-returns-6 c = 
+returns-6 c =
     let reads = c .before .before in
     let lengths = reads .before .before in
     let set = lengths .before .before in

@@ -1,34 +1,29 @@
-use native.Mathlib.Omega.{arith}
-use Rattle.rules.specs.Events.{snapshot}
+-- `refusing::read_number` meets its contract: 13 comes first, and the rules decide on tables that hold a sound state. Assumes nothing.
 use mathlib.Core.Path.{sym, _∙_}
+use native.Mathlib.Omega.{arith}
+use borrow.Author.Needs.{needs}
+use Rattle.rules.specs.Events.{snapshot}
 use Rattle.refusing.specs.Lending.{usable}
 use Rattle.refusing.specs.Ways.{read-unusable, read-ruled}
-use borrow.Author.Needs.{needs}
 use Rattle.refusing.proofs.read_number.Statement.{statement}
 use Rattle.refusing.proofs.read_number.Tie as tie
-use Rattle.refusing.proofs.read_number.Reads as reads
-use Rattle.refusing.proofs.read_number.Lts as lts
-use Rattle.refusing.proofs.is_unusable.Reads as is-unusable-reads
-use Rattle.refusing.proofs.read_refusal.Reads as read-refusal-reads
 
--- src/lib.rt:253:8
 is-unusable-requires : tie.Need-is-unusable-requires
 is-unusable-requires c κs = search needs
 
--- src/lib.rt:254:9
 returns : tie.Need-returns
-returns c = read-unusable _ _ _ _ (sym ((c .before .is-unusable) .ensures) ∙ (c .if1) .taken)
--- src/lib.rt:256:27
+returns c = read-unusable _ _ _ _ (sym (c .before .is-unusable .ensures) ∙ c .if1 .taken)
+
 shared-slice-read-read-refusal : tie.Need-shared-slice-read-read-refusal
-shared-slice-read-read-refusal c = let u = usable _ _ (sym ((c .before .before .is-unusable) .ensures) ∙ (c .before .if1) .left) in omega (arith, u .sized .long)
--- src/lib.rt:256:5
+shared-slice-read-read-refusal c = let u = usable _ _ (sym (c .before .before .is-unusable .ensures) ∙ c .before .if1 .left) in omega (arith, u .sized .long)
+
 read-refusal-requires : tie.Need-read-refusal-requires
 read-refusal-requires c κs = search needs
 
--- src/lib.rt:250:1
 returns-2 : tie.Need-returns-2
 unfolding snapshot
-returns-2 c = read-ruled _ _ _ _ (sym ((c .before .before .before .is-unusable) .ensures) ∙ (c .before .before .if1) .left) ((c .read-refusal) .ensures)
+returns-2 c = read-ruled _ _ _ _ (sym (c .before .before .before .is-unusable .ensures) ∙ c .before .before .if1 .left) (c .read-refusal .ensures)
+
 pub read-number-spec : {M : Type 1} → statement M
 read-number-spec =
     tie.close

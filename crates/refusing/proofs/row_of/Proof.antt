@@ -1,47 +1,49 @@
-use native.Mathlib.Omega.{arith}
-use Rattle.tables.specs.Layout.{waiting-row}
-use lib.ListN.{getD}
+-- `refusing::row_of` meets its contract: the index looked for is the rows passed and the index among those still to come (`Seeking`).
+-- The measure is how many rows are still to come. Assumes nothing.
 use Prim.Native.Nat.{_-_}
+use native.Mathlib.Omega.{arith}
+use lib.ListN.{getD}
+use Rattle.tables.specs.Layout.{waiting-row}
 use Rattle.refusing.specs.Seeking.{Seeking, seeking-start, seeking-found, seeking-next, seeking-end}
 use Rattle.refusing.proofs.row_of.Statement.{statement}
 use Rattle.refusing.proofs.row_of.Tie as tie
-use Rattle.refusing.proofs.row_of.Reads as reads
-use Rattle.refusing.proofs.row_of.Lts as lts
 
 abbrev Inv-loop : tie.InvT-loop
 Inv-loop book n identity i₀ i = Seeking identity n (λ j. getD book (waiting-row j) 0) i
+
 abbrev μ-loop : tie.MeasureT-loop
 μ-loop book n identity i₀ i = n - i
--- src/lib.rt:105:5
+
 loop-holds : tie.Need-loop-holds Inv-loop μ-loop
 loop-holds c = seeking-start _ _ _
--- src/lib.rt:106:28
+
 mul-if1 : tie.Need-mul-if1 Inv-loop μ-loop
 mul-if1 c = omega arith
--- src/lib.rt:106:17
+
 add-if1 : tie.Need-add-if1 Inv-loop μ-loop
 add-if1 c = omega arith
--- src/lib.rt:106:12
+
 mul-if1-2 : tie.Need-mul-if1-2 Inv-loop μ-loop
 mul-if1-2 c = omega arith
--- src/lib.rt:106:12
+
 shared-slice-read-if1 : tie.Need-shared-slice-read-if1 Inv-loop μ-loop
 shared-slice-read-if1 c = omega arith
--- src/lib.rt:107:13
+
 returns : tie.Need-returns Inv-loop μ-loop
-returns c = seeking-found ((c .before .before .before .loop) .inv) ((c .before .before .loop-test) .taken) ((c .if1) .taken)
--- src/lib.rt:109:9
+returns c = seeking-found (c .before .before .before .loop .inv) (c .before .before .loop-test .taken) (c .if1 .taken)
+
 add-i : tie.Need-add-i Inv-loop μ-loop
 add-i c = omega arith
--- src/lib.rt:105:5
+
 loop-less : tie.Need-loop-less Inv-loop μ-loop
 loop-less c = omega arith
--- src/lib.rt:105:5
+
 loop-again : tie.Need-loop-again Inv-loop μ-loop
-loop-again c = seeking-next ((c .before .before .before .loop) .inv) ((c .before .before .loop-test) .taken) ((c .if1) .left)
--- src/lib.rt:99:1
+loop-again c = seeking-next (c .before .before .before .loop .inv) (c .before .before .loop-test .taken) (c .if1 .left)
+
 returns-2 : tie.Need-returns-2 Inv-loop μ-loop
-returns-2 c = seeking-end ((c .before .loop) .inv) ((c .loop-test) .left)
+returns-2 c = seeking-end (c .before .loop .inv) (c .loop-test .left)
+
 pub row-of-spec : {M : Type 1} → statement M
 row-of-spec =
     tie.close

@@ -1,26 +1,19 @@
+-- `refusing::vote_number` meets its contract: 15 and 13 come first, and the rules decide on tables that hold a sound state. Assumes nothing.
+use borrow.Author.Needs.{needs}
 use Rattle.refusing.specs.Lending.{lent-usable}
 use Rattle.refusing.specs.Ways.{vote-lent, vote-ruled}
-use borrow.Author.Needs.{needs}
 use Rattle.refusing.proofs.vote_number.Statement.{statement}
 use Rattle.refusing.proofs.vote_number.Tie as tie
-use Rattle.refusing.proofs.vote_number.Reads as reads
-use Rattle.refusing.proofs.vote_number.Lts as lts
-use Rattle.refusing.proofs.lending_number.Reads as lending-number-reads
-use Rattle.refusing.proofs.vote_refusal.Reads as vote-refusal-reads
 
--- src/lib.rt:229:9
 lending-number-requires : tie.Need-lending-number-requires
 lending-number-requires c κs = search needs
 
--- src/lib.rt:231:9
 returns : tie.Need-returns
 returns c = vote-lent _ _ _ (c .before .lending-number .ensures) _ _ _ (c .if1 .taken)
 
--- src/lib.rt:233:5
 vote-refusal-requires : tie.Need-vote-refusal-requires
 vote-refusal-requires c κs = lent-usable _ _ _ (c .before .lending-number .ensures) (c .if1 .left) .sized
 
--- src/lib.rt:226:1
 returns-2 : tie.Need-returns-2
 returns-2 c = vote-ruled _ _ _ (c .before .before .lending-number .ensures) (c .before .if1 .left) _ _ _ (c .vote-refusal .ensures)
 
