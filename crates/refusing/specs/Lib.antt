@@ -1,3 +1,10 @@
 pub mod Operands
 pub mod Numbers
 pub mod Indexed
+pub mod Chains
+pub mod Seeking
+pub mod Lending
+pub mod Snapshots
+pub mod Deliveries
+pub mod Votes
+pub mod Ways
