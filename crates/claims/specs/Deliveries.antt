@@ -1,6 +1,6 @@
 -- Demand 2 for a delivery that isn't refused: its own answer is the one that 01's three numbered rules give, and tells the host which vote to send.
 use Rattle.std.specs.Prelude.{ℕ, ◌+◌, cond, ◌↔◌, ◌≡◌}
-use Rattle.std.proofs.Math.Logic.{Iff·trans}
+use Rattle.std.proofs.Math.Logic.Iff
 use Rattle.std.proofs.Math.Option.{none, some}
 use Rattle.std.proofs.Common.{sym, ◌∙◌}
 use Rattle.rules.specs.Partitions.{aye, nay}
@@ -56,16 +56,16 @@ module _ (t : Transaction) (s : State) (taken : refusal (delivery t) s ≡ none)
   -- "It is tested against each commit of version st+1 to SC. [..] Any clash: aborted, reason 1."
   pub reason_1_exactly : (step (delivery t) s).answer ≡ abort_answer t s 1 ↔ ClashingCommit s.clock.own t s.books
   unfolding ticked
-  reason_1_exactly = Iff·trans (says_abort 1) (fate_one_exactly (ticked s.clock) t s.waiting s.books)
+  reason_1_exactly = Iff.trans (says_abort 1) (fate_one_exactly (ticked s.clock) t s.waiting s.books)
 
   -- "A global one is tested in the same two ways against every waiting entry. Any clash: aborted, reason 2."
   pub reason_2_exactly : (step (delivery t) s).answer ≡ abort_answer t s 2 ↔ Entangled (ticked s.clock) t s.waiting s.books
-  reason_2_exactly = Iff·trans (says_abort 2) (fate_two_exactly (ticked s.clock) t s.waiting s.books)
+  reason_2_exactly = Iff.trans (says_abort 2) (fate_two_exactly (ticked s.clock) t s.waiting s.books)
 
   -- "If none exists: aborted, reason 3."
   pub reason_3_exactly : (step (delivery t) s).answer ≡ abort_answer t s 3 ↔ NoPlace (ticked s.clock) t s.waiting s.books
-  reason_3_exactly = Iff·trans (says_abort 3) (fate_three_exactly (ticked s.clock) t s.waiting s.books)
+  reason_3_exactly = Iff.trans (says_abort 3) (fate_three_exactly (ticked s.clock) t s.waiting s.books)
 
   -- "Else it joins at the end." "A local one takes the smallest place i, from 0 to the list's length, such that [..]"
   pub place_exactly : (i : ℕ) → (step (delivery t) s).answer ≡ wait_answer t s i ↔ Placed (ticked s.clock) t s.waiting s.books i
-  place_exactly i = Iff·trans (says_join i) (fate_join_exactly (ticked s.clock) t s.waiting s.books i)
+  place_exactly i = Iff.trans (says_join i) (fate_join_exactly (ticked s.clock) t s.waiting s.books i)

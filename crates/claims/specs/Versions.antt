@@ -1,7 +1,7 @@
 -- Reason 1 against the committed history: the kept commits of version st+1 to SC are all that the log committed under those versions.
 use Rattle.std.specs.Prelude.{ℕ, zero, suc, ◌+◌, ◌≤◌, ◌<◌, ◌↔◌, ◌≡◌, refl, length}
 use mathlib.Core.List.{List, [], ◌∷◌, ◌++◌, map, head-eq_of_cons-eq, tail-eq_of_cons-eq, nil≢cons}
-use Rattle.std.proofs.Math.Logic.{Iff·trans}
+use Rattle.std.proofs.Math.Logic.Iff
 use Rattle.std.proofs.Math.Option.{none}
 use Rattle.std.proofs.Common.{sym, ◌∙◌, ltb-false, le_of_suc-le-suc, not-suc-le-zero}
 use Rattle.std.proofs.Math.Path.{ap, subst}
@@ -120,5 +120,5 @@ reason_1_of_a_log es partitions own k t taken =
     let s = last es (opening partitions own k) in
     let h = committed_by es (opening partitions own k) in
     let books = log_books es partitions own k in
-    Iff·trans (reason_1_exactly t s taken)
+    Iff.trans (reason_1_exactly t s taken)
     (from_kept s.clock.own t h s.books books, to_kept s.clock.own t h s.books books (snapshot_kept t s taken))
