@@ -1,4 +1,6 @@
 // Certifying a newcomer: its keys read and written are tested against the kept rows and the waiting rows of the lent table, where they stand. Nothing is copied.
+#![tactic(auto)]
+
 ghost use Rattle.std.specs.Prelude.{◌+◌, ◌-◌, ◌≤◌, ◌<◌, true, ◌≡◌, length};
 ghost use Rattle.rules.specs.Lists.{any};
 ghost use Rattle.rules.specs.Keys.{ascending};

@@ -1,4 +1,6 @@
 // Is the state that two lent tables hold sound? Any words may stand in them: sizes are tested before the rows that they speak of are looked at.
+#![tactic(auto)]
+
 ghost use Rattle.std.specs.Prelude.{◌+◌, ◌≤◌, ◌<◌, min, ◌≡◌, length};
 ghost use Rattle.rules.specs.Lists.{member};
 ghost use Rattle.rules.specs.Sizes.{most_dc};

@@ -1,4 +1,6 @@
 // Closing: while the head of the waiting list is ready it is taken off, and the next head is looked at.
+#![tactic(auto)]
+
 mod head;
 
 ghost use Rattle.std.specs.Prelude.{◌-◌, ◌≡◌};

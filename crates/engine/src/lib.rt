@@ -1,5 +1,7 @@
 // The public operations on lent tables. None has a `requires`: any table, any number, any state gets an answer, and a refusal leaves every lent
 // byte as it was.
+#![tactic(auto)]
+
 mod judging;
 
 ghost use Rattle.std.specs.Prelude.{◌<◌, ◌≤◌, [], ◌≡◌, eqb, length};

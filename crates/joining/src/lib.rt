@@ -1,4 +1,6 @@
 // Rows in and out of the waiting list, the finish entry of a head that is taken off, the counters, and a vote stored. Each function says what the lent tables are afterwards.
+#![tactic(auto)]
+
 ghost use Rattle.std.specs.Prelude.{◌+◌, ◌*◌, ◌≤◌, ◌<◌, [], ◌∷◌, ◌≡◌, length, get_or, set};
 ghost use Rattle.rules.specs.Partitions.{with_partition};
 ghost use Rattle.laws.specs.Cuts.{put};

@@ -1,4 +1,6 @@
 // The kept commits: the head's row becomes the newest kept row, and the commit that stood there goes into the values; and the value of a key at a snapshot.
+#![tactic(auto)]
+
 ghost use Rattle.std.specs.Prelude.{◌+◌, ◌≤◌, ◌<◌, ◌≡◌, length};
 ghost use Rattle.rules.specs.Sizes.{floor};
 ghost use Rattle.rules.specs.Read.{read_at};

@@ -1,4 +1,6 @@
 // Ascending lists of keys, lent as slices: is a list ascending, is it within its limits, and which key two of them share.
+#![tactic(auto)]
+
 ghost use Rattle.std.specs.Prelude.{true, ◌≡◌};
 ghost use Rattle.rules.specs.Keys.{ascending, bad_keys, shared, meet};
 ghost use Rattle.keys.specs.Answers.{shared_of};

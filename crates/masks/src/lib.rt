@@ -1,4 +1,6 @@
 // Sets of partitions and votes: each stands in a table as a word of 32 bits, and is worked on as a mask of 8, one bit a partition.
+#![tactic(auto)]
+
 ghost use Rattle.std.specs.Prelude.{ℕ, ◌<◌, ◌≤◌, not, ◌≡◌, eqb};
 ghost use Rattle.rules.specs.Partitions.{names, with_partition, only, bad_set, other, outstanding, any_outstanding, every_vote_yes, from_others};
 

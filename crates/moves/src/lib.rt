@@ -1,4 +1,6 @@
 // Runs of words and of amounts moved within a lent table or laid into one. Each is one loop, and says what the whole table is afterwards.
+#![tactic(auto)]
+
 ghost use Rattle.std.specs.Prelude.{◌+◌, ◌≤◌, ◌≡◌, length};
 ghost use Rattle.laws.specs.Cuts.{cut, put};
 

@@ -1,4 +1,6 @@
 // Numbers and parts of text, on lent bytes: where a part ends, what number a part is, and a number written into a buffer.
+#![tactic(auto)]
+
 ghost use Rattle.std.specs.Prelude.{◌+◌, ◌≤◌, ◌<◌, ◌^◌, [], ◌∷◌, ◌≡◌, pos, negsuc, nat_abs, length, drop};
 ghost use Rattle.std.proofs.Math.Option.{map};
 ghost use Rattle.rules.specs.Bytes.{well_led, number, signed, below_zero, decimal, signed_text};

@@ -1,4 +1,6 @@
 // Opening: every word and amount that the state needs is cleared, and the sizes are stored.
+#![tactic(auto)]
+
 ghost use Rattle.std.specs.Prelude.{◌≤◌, ◌≡◌, pos, length, set};
 ghost use Rattle.laws.specs.Cuts.{put};
 ghost use Rattle.tables.specs.Layout.{book_words, sums_words};

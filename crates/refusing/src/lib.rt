@@ -1,5 +1,7 @@
 // Which number refuses an operation on lent tables, 0 for none: each check in its order, by early returns. Any tables and any numbers may be lent: the
 // lengths are looked at first, then soundness, and only then what the tables hold.
+#![tactic(auto)]
+
 ghost use Rattle.std.specs.Prelude.{◌≤◌, ◌<◌, ◌≡◌, length, get_or};
 ghost use Rattle.rules.specs.Events.{at, newest};
 ghost use Rattle.laws.specs.Tabs.{tab};

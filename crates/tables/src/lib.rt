@@ -1,4 +1,6 @@
 // The lengths of the lent tables, and where things stand in them. Document 01, "The ledger's sizes", gives every number.
+#![tactic(auto)]
+
 
 pub const COUNTERS: usize = 6; // partitions, own, SC, DC, k, how many wait
 

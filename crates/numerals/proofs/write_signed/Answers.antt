@@ -1,0 +1,23 @@
+-- `numerals::write_signed` meets its contract: a value's text is its magnitude's, behind a minus where it is below zero, and a magnitude has at most 19 digits. Assumes nothing.
+use mathlib.Core.Path.{sym, ◌∙◌}
+use borrow.Author.Rules.{rules}
+use mir.Facts.{to_z-of_z}
+use Rattle.numerals.specs.Writing.{room_plain, room_below, wrote_plain, wrote_below}
+use Rattle.numerals.proofs.write_signed.Goals as goal
+
+pub write_digits-requires : goal.write_digits-requires
+write_digits-requires c = room_below (to_z-of_z c.«ranges».v) c.magnitude.ensures c.«ranges».v.sfits c.requires c.write_byte-first.ensures
+
+pub returns-then-is_below_zero : goal.returns-then-is_below_zero
+returns-then-is_below_zero c =
+    let minus = c.write_byte-first in
+    wrote_below (to_z-of_z c.«ranges».v) (sym c.is_below_zero.ensures ∙ c.if-is_below_zero.true) c.magnitude.ensures c.requires
+    minus.ensures c.write_digits.ensures
+
+pub write_digits-requires-2 : goal.write_digits-requires-2
+write_digits-requires-2 c = room_plain _ _ (to_z-of_z c.«ranges».v) c.magnitude-2.ensures c.«ranges».v.sfits c.requires
+
+pub returns : goal.returns
+returns c =
+    wrote_plain (to_z-of_z c.«ranges».v) (sym c.is_below_zero.ensures ∙ c.if-is_below_zero.false) c.magnitude-2.ensures
+    c.write_digits-2.ensures

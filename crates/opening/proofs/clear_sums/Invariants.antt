@@ -1,0 +1,12 @@
+use Rattle.opening.specs.Clearing.{Cleared, clear_start, clear_step, clear_end}
+use lib.IntN.{pos}
+use mathlib.Core.Path.{refl}
+use native.Mathlib.Omega.{arith}
+use Prim.Native.Nat.{◌-◌}
+use Rattle.opening.proofs.clear_sums.Given as goal
+
+abbrev pub invariant-loop-j : goal.invariant-loop-j
+invariant-loop-j l = Cleared l.initial.t (pos 0) l.n l.t l.j
+
+abbrev pub decreases-loop-j : goal.decreases-loop-j
+decreases-loop-j l = l.n - l.j
