@@ -1,0 +1,13 @@
+-- A walk on: the newcomer clashes with no row before the one looked at (`NoneYet` of `specs/Walks.antt`). The measure is what is left of the rows. Assumes nothing.
+use Prim.Native.Nat.{◌-◌}
+use native.Mathlib.Omega.{arith}
+use Rattle.tables.specs.Tested.{row_clash}
+use Rattle.tables.specs.View.{waiting_words}
+use Rattle.certifying.specs.Walks.{NoneYet, none_start, none_step, none_found, none_end}
+use Rattle.certifying.proofs.clashes_with_waiting.Given as goal
+
+abbrev pub invariant-loop-i : goal.invariant-loop-i
+invariant-loop-i l = NoneYet (row_clash l.global l.reads l.keys) (waiting_words l.book) l.n l.i
+
+abbrev pub decreases-loop-i : goal.decreases-loop-i
+decreases-loop-i l = l.n - l.i
