@@ -9,7 +9,7 @@ ghost use Rattle.tables.specs.Settled.{Ready, closed_desk, settled_book};
 ghost use Rattle.closing.specs.Desks.{clock_of, desk_of};
 
 // The counters that a delivery and a change touch, and the sizes at opening.
-#[derive(Drop)]
+#[derive(Clone, Copy)]
 pub struct Clock {
     pub partitions: u32,
     pub own: u32,
@@ -18,7 +18,7 @@ pub struct Clock {
 }
 
 // What closing changes beside the tables: SC, how many wait, how many finishes were written.
-#[derive(Drop)]
+#[derive(Clone, Copy)]
 pub struct Tally {
     pub sc: u32,
     pub waiting: u32,
