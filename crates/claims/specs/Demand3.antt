@@ -8,7 +8,7 @@ use Rattle.rules.specs.Partitions.{Ballot, Heard}
 use Rattle.rules.specs.Ledger.{Transaction, Entry, State, opening}
 use Rattle.rules.specs.Events.{Event, delivery, vote, change, read, with_vote}
 use Rattle.rules.specs.Refusals.{step}
-use Rattle.rules.specs.Logs.{last, finishes}
+use Rattle.rules.specs.Logs.{last}
 use Rattle.laws.specs.Each.{Each, each_weaken, map_same, next_place}
 use Rattle.claims.specs.Gather.{votes_of, same_votes_of}
 use Rattle.claims.specs.Filled.{fill, Under, Timely, resting_stays, resting_fill}

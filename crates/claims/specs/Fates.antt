@@ -7,7 +7,6 @@ use Rattle.rules.specs.Lists.{any}
 use Rattle.rules.specs.Ledger.{Transaction, Entry, Clock, Books, keys_of, is_local}
 use Rattle.rules.specs.Place.{place}
 use Rattle.rules.specs.Delivery.{blocks, passes, clash_commit, clash_entry, commits_after, Fate, abort, join, placed, fate}
-use Rattle.rules.specs.Events.{waits}
 use Rattle.laws.specs.Tests.{split, never}
 use Rattle.laws.specs.Members.{any_found, any_member}
 use Rattle.claims.specs.Places.{Least, place_least, LawfulPlace, lawful_exactly}

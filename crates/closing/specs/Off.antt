@@ -1,17 +1,15 @@
 -- A head taken off on the tables: what each of the two ways leaves is the desk with its head off.
-use Rattle.std.specs.Prelude.{ℕ, zero, suc, ◌+◌, ◌*◌, ◌-◌, ◌≤◌, ◌<◌, Bool, true, false, cond, List, [], ◌∷◌, ◌≡◌, refl, ℤ, length, get_or}
-use Rattle.std.proofs.Common.{sym, ap, ap₂, ◌∙◌, subst, arith}
-use Rattle.rules.specs.Ledger.{Entry, Clock, Books}
-use Rattle.rules.specs.Closing.{ready, commits, version, aborts, finish}
+use Rattle.std.specs.Prelude.{ℕ, suc, ◌+◌, ◌*◌, ◌-◌, ◌≤◌, ◌<◌, true, false, cond, List, [], ◌∷◌, ◌≡◌, ℤ, get_or}
+use Rattle.std.proofs.Common.{sym, ap, ◌∙◌, subst, arith}
+use Rattle.rules.specs.Ledger.{Clock}
+use Rattle.rules.specs.Closing.{ready, commits, finish}
 use Rattle.laws.specs.Cuts.{put, getD_cut}
-use Rattle.claims.specs.SoundParts.{Sound, GoodEntry}
-use Rattle.tables.specs.Layout.{book_words, sums_words}
 use Rattle.tables.specs.Rows.{row_transaction, row_entry}
 use Rattle.tables.specs.View.{waiting_words, entry_at, length_waiting, books_view}
 use Rattle.tables.specs.TakenOff.{off_book, off_sums}
 use Rattle.tables.specs.Keeping.{committed_book, committed_sums}
 use Rattle.tables.specs.Tested.{row_ready, row_commits, ready_row, commits_row}
-use Rattle.tables.specs.Good.{WaitingGood, KeptGood, waiting_entry_good, kept_good}
+use Rattle.tables.specs.Good.{KeptGood, waiting_entry_good, kept_good}
 use Rattle.tables.specs.Bytes.{ByteSets, entry_bytes}
 use Rattle.tables.specs.Closed.{Desk, Fit, head_of, entry_words, kept_desk, told_desk, off_desk, head_off, head_off_fit, head_off_waiting, close_desk}
 use Rattle.tables.specs.Counters.{with_counters}

@@ -1,22 +1,15 @@
 -- The operations once nothing refuses them, one step after the other.
-use Rattle.std.specs.Prelude.{ℕ, zero, suc, ◌+◌, ◌*◌, ◌-◌, ◌≤◌, ◌<◌, Bool, true, false, not, cond, List, [], ◌∷◌, ◌≡◌, refl, eqb, ℤ, length, get_or}
-use Rattle.std.proofs.Math.Option.{none}
-use Rattle.std.proofs.Common.{sym, ap, ◌∙◌, subst, arith}
+use Rattle.std.specs.Prelude.{ℕ, Bool, true, false, List, ◌≡◌, refl, eqb, ℤ}
 use Rattle.rules.specs.Partitions.{only}
 use Rattle.rules.specs.Ledger as rules
-use Rattle.rules.specs.Delivery.{ticked, Fate, abort, join}
+use Rattle.rules.specs.Delivery.{abort, join}
 use Rattle.tables.specs.Closed.{Desk}
-use Rattle.tables.specs.Settled.{Ready, closed_desk, settled_book}
-use Rattle.tables.specs.View.{clock_view}
-use Rattle.closing.specs.Desks.{clock_of, desk_of}
-use Rattle.closing.specs.declared.Clock.{Clock}
-use Rattle.closing.specs.declared.Tally.{Tally}
+use Rattle.tables.specs.Settled.{closed_desk, settled_book}
 use Rattle.engine.specs.declared.Send.{Send}
 use Rattle.engine.specs.declared.Send.TheVariants.{Nothing, Yes, No}
-use Rattle.engine.specs.declared.Delivered.{Delivered}
 use Rattle.engine.specs.declared.Delivered.TheVariants.{Waits, Aborted}
-use Rattle.engine.specs.Answers.{Result, send_of}
-use Rattle.engine.specs.Delivering.{delivered_answer, delivered_result}
+use Rattle.engine.specs.Answers.{send_of}
+use Rattle.engine.specs.Delivering.{delivered_result}
 use Rattle.engine.specs.Operations.{left}
 
 -- The vote to send: none for a local one, else yes where it joins.

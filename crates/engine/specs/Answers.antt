@@ -1,5 +1,5 @@
 -- What each answer of an operation says, as an answer of the rules, and how many finishes it counts.
-use Rattle.std.specs.Prelude.{ℕ, Bool, true, false, cond, List, ◌≡◌, ℤ, length}
+use Rattle.std.specs.Prelude.{ℕ, Bool, true, false, List, ◌≡◌, ℤ, length}
 use Rattle.std.proofs.Math.Option.{Option, none, some}
 use Rattle.rules.specs.Partitions.{Ballot, aye, nay}
 use Rattle.rules.specs.Delivery.{Fate, abort, join}

@@ -1,9 +1,9 @@
 -- A delivery on the tables, where none is refused: the newcomer's row, closing, the counters. The state and the finishes after it are the rules'.
-use Prim.Native.Nat.{ℕ, zero, suc, ◌+◌, ◌*◌, ◌-◌, ◌≤◌, ◌<◌}
-use Rattle.std.specs.Prelude.{Bool, true, false, not, cond, ◌||◌, ◌≡◌, ltb, ℤ, get_or}
-use mathlib.Core.List.{List, [], ◌∷◌, map}
-use Rattle.std.proofs.Common.{⊎_elim, sym, ◌∙◌, subst, ltb-false, leb-false}
-use Rattle.std.proofs.Math.Option.{Option, none, some}
+use Prim.Native.Nat.{ℕ, suc, ◌+◌, ◌*◌, ◌≤◌, ◌<◌}
+use Rattle.std.specs.Prelude.{Bool, true, false, ◌≡◌, ℤ, get_or}
+use mathlib.Core.List.{List}
+use Rattle.std.proofs.Common.{⊎_elim, ◌∙◌, ltb-false, leb-false}
+use Rattle.std.proofs.Math.Option.{none}
 use Rattle.std.proofs.Math.Path.{refl, ap, ap₂}
 use native.Mathlib.Omega.{arith}
 use Rattle.std.proofs.Math.Dec.{eqb}
@@ -12,9 +12,9 @@ use Rattle.rules.specs.Lists.{insertAt}
 use Rattle.rules.specs.Sizes.{most_keys, most_waiting, most_kept, floor}
 use Rattle.rules.specs.Partitions.{only, none_heard}
 use Rattle.rules.specs.Keys.{too_many}
-use Rattle.rules.specs.Ledger.{Transaction, Entry, Clock, Books, State, keys_of, is_local}
+use Rattle.rules.specs.Ledger.{Transaction, Entry, Clock, Books, is_local}
 use Rattle.rules.specs.Delivery.{ticked, entered, Fate, abort, join, fate, joined, vote_to_send}
-use Rattle.rules.specs.Closing.{close, Closed, Finish}
+use Rattle.rules.specs.Closing.{close}
 use Rattle.rules.specs.Events.{Answer, waits, aborted, delivery, delivered, closing, deliver_at, deliver_with, accepted}
 use Rattle.rules.specs.Refusals.{refusal, checks, delivery_checks}
 use Rattle.laws.specs.Tests.{or_left, or_right}
@@ -32,7 +32,7 @@ use Rattle.tables.specs.NewRow.{first_words, newcomer}
 use Rattle.tables.specs.Joined.{joined_book, joined_sums, length_joined, length_joined_sums, joined_waiting, joined_books, joined_counter}
 use Rattle.tables.specs.Judged.{lent, lent_keys, row_fate, fate_row}
 use Rattle.laws.specs.Cuts.{put}
-use Rattle.tables.specs.Closed.{Desk, Fit, words_of}
+use Rattle.tables.specs.Closed.{Desk, words_of}
 use Rattle.tables.specs.Settled.{Ready, closed_desk, settled_book, settled_view, settled_finishes, settled_count}
 
 -- The desk before closing: with the newcomer at its place, or as it was.

@@ -1,7 +1,6 @@
 -- Judging a newcomer on rows, one way out after the other.
-use Rattle.std.specs.Prelude.{ℕ, ◌+◌, ◌-◌, ◌≤◌, ◌<◌, Bool, true, false, not, cond, List, ◌≡◌, refl, eqb, length}
+use Rattle.std.specs.Prelude.{ℕ, ◌+◌, ◌-◌, ◌≤◌, ◌<◌, Bool, true, false, not, List, ◌≡◌, refl, eqb, length}
 use Rattle.std.proofs.Math.Option.{Option, none, some}
-use Rattle.std.proofs.Common.{sym, ap, ◌∙◌}
 use Rattle.rules.specs.Lists.{any}
 use Rattle.rules.specs.Partitions.{only}
 use Rattle.rules.specs.Keys.{ascending}
@@ -14,7 +13,6 @@ use Rattle.tables.specs.Tested.{row_clash, row_blocks, row_passes}
 use Rattle.tables.specs.Good.{WaitingGood, KeptGood}
 use Rattle.tables.specs.Judged.{row_fate}
 use Rattle.certifying.specs.Answers.{place_of}
-use Rattle.certifying.specs.declared.Place.{Place}
 use Rattle.certifying.specs.declared.Place.TheVariants.{At, Nowhere}
 use Rattle.engine.specs.declared.judging.Fate.{Fate}
 use Rattle.engine.specs.declared.judging.Fate.TheVariants.{Abort, Join}

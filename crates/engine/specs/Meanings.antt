@@ -1,18 +1,17 @@
 -- What the operations mean: the rules' desk on the state that the lent tables hold, refusals included. With the claims these are demands 1 and 2.
-use Rattle.std.specs.Prelude.{ℕ, zero, suc, ◌+◌, ◌*◌, ◌/◌, ◌≤◌, ◌<◌, Bool, true, false, not, cond, ◌||◌, List, [], ◌∷◌, ◌≡◌, refl, eqb, ltb, ℤ, length, get_or}
+use Rattle.std.specs.Prelude.{ℕ, ◌/◌, ◌≤◌, Bool, true, false, cond, List, [], ◌≡◌, refl, eqb, ltb, ℤ, length, get_or}
 use Rattle.std.proofs.Math.Option.{Option, none, some}
 use Rattle.std.proofs.Math.Path.{sym}
-use Rattle.std.proofs.Common.{ap, ◌∙◌, subst, arith, eq-eqb, eqb-true, le-ltb, ltb-false}
+use Rattle.std.proofs.Common.{ap, arith, eq-eqb, eqb-true, le-ltb, ltb-false}
 use Rattle.std.proofs.lemmas.Bool.{eqb-false}
 use Rattle.rules.specs.Sizes.{most_waiting}
-use Rattle.rules.specs.Ledger.{State, sizes_fit, opening}
+use Rattle.rules.specs.Ledger.{sizes_fit, opening}
 use Rattle.rules.specs.Events as rules
 use Rattle.rules.specs.Events.{Event, delivery, vote, change, read, snapshot, take_read, accepted, Step}
 use Rattle.rules.specs.Read.{read_at}
-use Rattle.rules.specs.Soundness.{sound}
-use Rattle.rules.specs.Refusals.{first_of, unless_refused, too_little_room, desk_checks, desk}
+use Rattle.rules.specs.Refusals.{first_of, too_little_room, desk_checks, desk}
 use Rattle.laws.specs.Tests.{split}
-use Rattle.laws.specs.Cuts.{put, put_nothing}
+use Rattle.laws.specs.Cuts.{put_nothing}
 use Rattle.claims.specs.Refused.{desk_refused, desk_accepted}
 use Rattle.tables.specs.Layout.{book_words, sums_words}
 use Rattle.tables.specs.View.{view, books_view}
@@ -20,15 +19,14 @@ use Rattle.tables.specs.Opened.{opened_view}
 use Rattle.tables.specs.Voted.{ballot}
 use Rattle.tables.specs.Judged.{lent}
 use Rattle.tables.specs.Closed.{words_of}
-use Rattle.checking.specs.SoundTables.{SoundTables, sound_tables}
-use Rattle.engine.specs.declared.Delivered.{Delivered}
+use Rattle.checking.specs.SoundTables.{sound_tables}
 use Rattle.engine.specs.declared.Delivered.TheVariants.{Refused}
 use Rattle.engine.specs.declared.Changed.TheVariants.{Refused as change_refused}
 use Rattle.engine.specs.declared.Voted.TheVariants.{Refused as vote_refused}
 use Rattle.engine.specs.Answers.{Result, Means, delivered_said, delivered_finishes, voted_said, voted_finishes, changed_said, changed_finishes, reading_said, snapshot_said}
 use Rattle.engine.specs.declared.Snapshot.{Snapshot}
 use Rattle.engine.specs.declared.Opening.TheVariants.{Opened}
-use Rattle.engine.specs.Delivering.{Accepting, delivery_means}
+use Rattle.engine.specs.Delivering.{delivery_means}
 use Rattle.engine.specs.Voting.{Lent, change_means, vote_means}
 use Rattle.refusing.specs.Operands.{number_of, short, lent_number, delivery_number, vote_number, index_of, waiting_identities, change_number, read_number, opening_number}
 use Rattle.engine.specs.Operations.{left, delivered_on, delivering, voted_on, voting, changed_on, changing, reading, opened}

@@ -1,18 +1,11 @@
 -- What each public operation must give: the number that refuses it, or the rules' event on the tables. Each contract is one equation with these.
-use Rattle.std.specs.Prelude.{ℕ, zero, suc, ◌+◌, ◌/◌, ◌≤◌, ◌<◌, Bool, true, false, not, cond, ◌||◌, List, [], ◌∷◌, map, eqb, ltb, ℤ, length, get_or}
-use Rattle.std.proofs.Math.Option.{Option, none, some}
-use Rattle.rules.specs.Ledger.{Clock, State, sizes_fit}
+use Rattle.std.specs.Prelude.{ℕ, ◌+◌, Bool, cond, List, [], eqb, ℤ, length, get_or}
 use Rattle.rules.specs.Delivery.{ticked}
 use Rattle.rules.specs.Read.{read_at}
-use Rattle.rules.specs.Events.{Event, delivery, vote, change, read, snapshot, with_k}
-use Rattle.rules.specs.Soundness.{sound}
-use Rattle.rules.specs.Refusals.{refusal, too_little_room}
-use Rattle.laws.specs.Tabs.{tab}
-use Rattle.tables.specs.Layout.{book_words, sums_words, waiting_row}
+use Rattle.rules.specs.Events.{snapshot, with_k}
 use Rattle.tables.specs.View.{books_view, clock_view, view}
-use Rattle.tables.specs.Voted.{ballot}
 use Rattle.tables.specs.Opened.{opened_book, opened_sums}
-use Rattle.tables.specs.Judged.{lent, row_fate}
+use Rattle.tables.specs.Judged.{row_fate}
 use Rattle.engine.specs.declared.Delivered.{Delivered}
 use Rattle.engine.specs.declared.Delivered.TheVariants.{Refused}
 use Rattle.engine.specs.declared.Voted.{Voted}

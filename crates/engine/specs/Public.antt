@@ -1,19 +1,17 @@
 -- The public operations: a number first, then the event. Each way out is one equation.
-use Rattle.std.specs.Prelude.{ℕ, zero, suc, ◌+◌, ◌*◌, ◌/◌, ◌≤◌, ◌<◌, Bool, true, false, cond, ◌&&◌, ◌||◌, List, [], ◌∷◌, refl, eqb, ltb, ℤ, length}
+use Rattle.std.specs.Prelude.{ℕ, zero, suc, ◌+◌, ◌*◌, ◌/◌, ◌≤◌, ◌<◌, Bool, true, false, ◌&&◌, ◌||◌, List, [], eqb, ltb, ℤ, length}
 use Rattle.std.proofs.Math.Bool.{not}
 use Rattle.std.proofs.Math.Path.{◌≡◌, sym}
-use Rattle.std.proofs.Common.{ap, ◌∙◌, subst, arith}
-use borrow.Author.Tests.{ltb-false, eqb-true, eq-eqb, ne_eqb, not-false, not-true}
+use Rattle.std.proofs.Common.{◌∙◌, arith}
+use borrow.Author.Tests.{ltb-false, eqb-true, eq-eqb, ne_eqb, not-false}
 use Rattle.std.proofs.Math.ListN.{get_or}
 use Rattle.rules.specs.Lists.{any}
-use Rattle.rules.specs.Sizes.{most_waiting, floor}
+use Rattle.rules.specs.Sizes.{most_waiting}
 use Rattle.rules.specs.Partitions.{names, other}
-use Rattle.rules.specs.Keys.{bad_key}
 use Rattle.rules.specs.Ledger.{State, Entry, sizes_fit}
-use Rattle.rules.specs.Soundness.{sound}
-use Rattle.rules.specs.Events.{Event, delivery, vote, change, read, with_k}
+use Rattle.rules.specs.Events.{Event, delivery, vote, change, with_k}
 use Rattle.rules.specs.Refusals.{is_for, refusal, checks, vote_checks, too_little_room}
-use Rattle.laws.specs.Tests.{split, never, or_left, or_right, and_left}
+use Rattle.laws.specs.Tests.{split, or_left, or_right, and_left}
 use Rattle.tables.specs.Layout.{book_words, sums_words, waiting_row}
 use Rattle.laws.specs.Cuts.{getD_cut}
 use Rattle.laws.specs.Bits.{names_within}
@@ -28,7 +26,7 @@ use Rattle.tables.specs.Opened.{opened_book, opened_sums}
 use Rattle.tables.specs.Judged.{lent}
 use Rattle.tables.specs.Settled.{Ready}
 use Rattle.checking.specs.SoundTables.{sound_tables}
-use Rattle.refusing.specs.Operands.{number_of, short, lent_number, delivery_number, vote_number, change_number, read_number, opening_number, index_of, waiting_identities}
+use Rattle.refusing.specs.Operands.{short, lent_number, delivery_number, vote_number, change_number, opening_number, index_of, waiting_identities}
 use Rattle.refusing.specs.Numbers.{Clear, clear}
 use Rattle.refusing.specs.Indexed.{RowOf, row_of, vote_waits}
 use Rattle.engine.specs.declared.Delivered.{Delivered}
@@ -40,7 +38,7 @@ use Rattle.engine.specs.declared.Voted.TheVariants.{Refused as vote_refused}
 use Rattle.engine.specs.declared.Opening.TheVariants.{Refused as opening_refused, Opened}
 use Rattle.engine.specs.Answers.{Result}
 use Rattle.engine.specs.Delivering.{Accepting}
-use Rattle.engine.specs.Voting.{Lent, desk_before, changed_result, change_ready, voted_desk, voted_result, vote_ready}
+use Rattle.engine.specs.Voting.{desk_before, changed_result, change_ready, voted_desk, voted_result, vote_ready}
 use Rattle.engine.specs.Storing.{Votable}
 use Rattle.engine.specs.Operations.{left, delivered_on, delivering, voted_on, voting, changed_on, changing, opened}
 
@@ -113,7 +111,10 @@ module _ (k : ℕ) (book : List ℕ) (sums : List ℤ) (fin : List ℕ) (n : ℕ
         cleared (length fin) (short book sums) (change k) (view book sums) z,
       )
 
-  change_readies : n ≡ 0 → Ready (with_k k (clock_view book)) (desk_before book sums fin)
+  pub change_long : n ≡ 0 → book_words ≤ length book
+  change_long none = (change_clear none).0.long
+
+  pub change_readies : n ≡ 0 → Ready (with_k k (clock_view book)) (desk_before book sums fin)
   unfolding too_little_room
   change_readies none =
       let c = change_clear none in
@@ -127,7 +128,7 @@ module _ (k : ℕ) (book : List ℕ) (sums : List ℤ) (fin : List ℕ) (n : ℕ
       k c.1.allowed
 
   pub change_asks : n ≡ 0 → (book_words ≤ length book) × Ready (with_k k (clock_view book)) (desk_before book sums fin)
-  change_asks none = ((change_clear none).0.long, change_readies none)
+  change_asks none = (change_long none, change_readies none)
 
   pub change_takes : (r : Result Changed) → n ≡ 0 → r ≡ changed_result (with_k k (clock_view book)) (desk_before book sums fin) → r ≡ changing k book sums fin
   unfolding changing changed_on
@@ -177,6 +178,12 @@ module _ (identity p : ℕ) (agrees : Bool) (book : List ℕ) (sums : List ℤ) 
   vote_clear : n ≡ 0 → LongTables book sums × Clear (length fin) event (view book sums)
   vote_clear none = vote_clears identity p agrees book sums (length fin) n is_number none
 
+  pub vote_long : n ≡ 0 → book_words ≤ length book
+  vote_long none = (vote_clear none).0.long
+
+  pub vote_list : n ≡ 0 → get_or book 5 0 ≤ 32
+  vote_list none = (sound_tables book sums (vote_clear none).1.is_sound).few_waiting
+
   vote_row : n ≡ 0 → RowOf identity book sums i
   vote_row none = row_of identity book sums (vote_waits identity p (ballot agrees) book sums (vote_clear none).1.allowed)
 
@@ -203,12 +210,12 @@ module _ (identity p : ℕ) (agrees : Bool) (book : List ℕ) (sums : List ℤ) 
       let set = get_or book (6 + 24 * i + 1) 0 in
       names_within 8 set p (vote_bytes none).set_byte (and_left (names set p) (not (eqb p (get_or book 1 0))) (vote_other none))
 
-  votable : n ≡ 0 → Votable i p agrees book sums fin
+  pub votable : n ≡ 0 → Votable i p agrees book sums fin
   unfolding too_little_room
   votable none =
       let c = vote_clear none in
       let r = vote_row none in
-      let few = (sound_tables book sums c.1.is_sound).few_waiting in
+      let few = vote_list none in
       let low = r.below in
       let bytes = vote_bytes none in
       record {
@@ -227,7 +234,7 @@ module _ (identity p : ℕ) (agrees : Bool) (book : List ℕ) (sums : List ℤ) 
             identity i p agrees r.below r.its c.1.allowed;
       }
 
-  vote_takes : (r : Result Voted) → n ≡ 0 → r ≡ voted_result (clock_view book) (voted_desk i p agrees book sums fin) → r ≡ voting identity p agrees book sums fin
+  pub vote_takes : (r : Result Voted) → n ≡ 0 → r ≡ voted_result (clock_view book) (voted_desk i p agrees book sums fin) → r ≡ voting identity p agrees book sums fin
   unfolding voting voted_on
   vote_takes r none h = rw (← is_number, none) h
 

@@ -1,12 +1,11 @@
 -- Reading: a number first, then the value of the newest version at most st.
-use Rattle.std.specs.Prelude.{ℕ, zero, suc, ◌+◌, ◌/◌, ◌≤◌, ◌<◌, Bool, true, false, not, cond, ◌||◌, List, [], ◌∷◌, ◌≡◌, refl, eqb, ℤ, length, get_or}
+use Rattle.std.specs.Prelude.{ℕ, ◌+◌, ◌≤◌, ◌<◌, List, ◌≡◌, refl, ℤ, length, get_or}
 use Rattle.std.proofs.Math.Path.{sym}
 use Rattle.std.proofs.Common.{ap, ◌∙◌, arith}
 use borrow.Author.Tests.{ltb-false, leb-false, ne_eqb}
 use Rattle.rules.specs.Sizes.{keys, floor}
-use Rattle.rules.specs.Keys.{bad_key}
 use Rattle.rules.specs.Read.{read_at}
-use Rattle.rules.specs.Events.{Event, read, snapshot, at, newest}
+use Rattle.rules.specs.Events.{read, snapshot, at, newest}
 use Rattle.rules.specs.Refusals.{refusal, checks, read_checks}
 use Rattle.claims.specs.Refused.{none_applies}
 use Rattle.tables.specs.Layout.{book_words, sums_words}
@@ -14,14 +13,13 @@ use Rattle.tables.specs.View.{view, books_view}
 use Rattle.tables.specs.Good.{KeptGood}
 use Rattle.checking.specs.SoundTables.{sound_tables}
 use Rattle.refusing.specs.Operands.{short, lent_number, read_number}
-use Rattle.refusing.specs.Numbers.{Clear}
 use Rattle.engine.specs.declared.Reading.{Reading}
 use Rattle.engine.specs.declared.Reading.TheVariants.{Refused, Value}
 use Rattle.engine.specs.declared.Snapshot.{Snapshot}
 use Rattle.engine.specs.declared.Snapshot.TheVariants.{At, Newest}
 use Rattle.engine.specs.Answers.{snapshot_said}
 use Rattle.engine.specs.Operations.{reading}
-use Rattle.engine.specs.Public.{LongTables, long_tables, not_short, cleared}
+use Rattle.engine.specs.Public.{long_tables, not_short, cleared}
 
 sc_word : (book : List ℕ) (sums : List ℤ) → (view book sums).books.sc ≡ get_or book 2 0
 unfolding view books_view
@@ -37,14 +35,14 @@ pub record Readable (key st : ℕ) (book : List ℕ) (sums : List ℤ) : Type 0 
   pub near : get_or book 2 0 ≤ st + 64
 
 module _ (key : ℕ) (st : Snapshot) (book : List ℕ) (sums : List ℤ) (n : ℕ) (is_number : n ≡ read_number key (snapshot_said st) book sums) where
-  read_refuses : (n ≡ 0 → ⊥) → Refused n ≡ reading key st book sums
+  pub read_refuses : (n ≡ 0 → ⊥) → Refused n ≡ reading key st book sums
   unfolding reading
   read_refuses some = rw (← is_number, ne_eqb n 0 some)
 
   abbrev at_st : ℕ
   at_st = snapshot (snapshot_said st) (view book sums)
 
-  readable : n ≡ 0 → Readable key at_st book sums
+  pub readable : n ≡ 0 → Readable key at_st book sums
   unfolding read_number refusal checks read_checks books_view
   readable none =
       let e = read key (snapshot_said st) in
@@ -64,7 +62,7 @@ module _ (key : ℕ) (st : Snapshot) (book : List ℕ) (sums : List ℤ) (n : �
         near = omega arith;
       }
 
-  read_takes : (v : ℤ) → n ≡ 0 → v ≡ read_at key at_st (books_view (get_or book 2 0) book sums) → Value v at_st ≡ reading key st book sums
+  pub read_takes : (v : ℤ) → n ≡ 0 → v ≡ read_at key at_st (books_view (get_or book 2 0) book sums) → Value v at_st ≡ reading key st book sums
   unfolding reading
   read_takes v none h = rw (← is_number, none, h)
 

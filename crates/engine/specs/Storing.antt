@@ -1,20 +1,14 @@
 -- Taking a vote and a change that nothing refuses.
-use Rattle.std.specs.Prelude.{ℕ, ◌+◌, ◌*◌, ◌≤◌, ◌<◌, Bool, List, ◌≡◌, refl, ℤ, length, get_or}
-use Rattle.std.proofs.Math.Option.{none}
-use Rattle.std.proofs.Common.{sym, ap, ◌∙◌, arith}
+use Rattle.std.specs.Prelude.{ℕ, ◌+◌, ◌*◌, ◌≤◌, ◌<◌, Bool, List, ◌≡◌, ℤ, length, get_or}
 use Rattle.rules.specs.Ledger.{Clock}
-use Rattle.rules.specs.Events.{change, vote, with_k}
-use Rattle.rules.specs.Refusals.{refusal}
+use Rattle.rules.specs.Events.{with_k}
 use Rattle.tables.specs.Layout.{book_words}
-use Rattle.tables.specs.View.{clock_view, view, waiting_words, entry_at}
-use Rattle.tables.specs.Voted.{voted_book, ballot}
+use Rattle.tables.specs.View.{clock_view}
+use Rattle.tables.specs.Voted.{voted_book}
 use Rattle.tables.specs.Closed.{Desk}
 use Rattle.tables.specs.Settled.{Ready, closed_desk, settled_book}
-use Rattle.engine.specs.declared.Voted.{Voted}
 use Rattle.engine.specs.declared.Voted.TheVariants.{Stored}
-use Rattle.engine.specs.declared.Changed.{Changed}
 use Rattle.engine.specs.declared.Changed.TheVariants.{Taken}
-use Rattle.engine.specs.Answers.{Result}
 use Rattle.engine.specs.Voting.{desk_before, voted_desk, voted_result, changed_result}
 use Rattle.engine.specs.Operations.{left}
 

@@ -1,15 +1,13 @@
 -- Taking a delivery that nothing refuses: what each call asks, and what the two ways leave.
-use Rattle.std.specs.Prelude.{ℕ, zero, suc, ◌+◌, ◌*◌, ◌-◌, ◌≤◌, ◌<◌, Bool, true, false, not, cond, ◌||◌, List, [], ◌∷◌, ◌≡◌, refl, eqb, ℤ, length, get_or}
-use Rattle.std.proofs.Math.Option.{none}
+use Rattle.std.specs.Prelude.{ℕ, ◌+◌, ◌≤◌, ◌<◌, true, false, not, List, ◌≡◌, ℤ, length, get_or}
 use Rattle.std.proofs.Math.Path.{sym}
-use Rattle.std.proofs.Common.{ap, ◌∙◌, subst, arith}
+use Rattle.std.proofs.Common.{ap, ◌∙◌, arith}
 use borrow.Author.Tests.{not-false, eqb-false}
 use Rattle.rules.specs.Lists.{any}
 use Rattle.rules.specs.Sizes.{most_dc}
 use Rattle.rules.specs.Keys.{bad_key, bad_keys, ascending}
 use Rattle.rules.specs.Ledger as rules
 use Rattle.rules.specs.Delivery.{ticked, Fate, abort, join}
-use Rattle.rules.specs.Events.{delivery}
 use Rattle.rules.specs.Refusals.{refusal, checks, delivery_checks}
 use Rattle.laws.specs.Tests.{or_left, or_right}
 use Rattle.claims.specs.Refused.{none_applies}
@@ -20,7 +18,6 @@ use Rattle.tables.specs.Joined.{joined_book, joined_sums}
 use Rattle.tables.specs.Judged.{lent, lent_keys, row_fate}
 use Rattle.tables.specs.Closed.{Desk}
 use Rattle.tables.specs.Settled.{Ready}
-use Rattle.engine.specs.declared.judging.Fate as code
 use Rattle.engine.specs.declared.judging.Fate.TheVariants.{Abort, Join}
 use Rattle.engine.specs.declared.Delivered.{Delivered}
 use Rattle.engine.specs.Answers.{Result}

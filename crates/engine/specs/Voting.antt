@@ -1,12 +1,12 @@
 -- A vote and a change on the tables, where none is refused. The state and the finishes after each are the rules'.
-use Rattle.std.specs.Prelude.{ℕ, zero, suc, ◌+◌, ◌*◌, ◌-◌, ◌≤◌, ◌<◌, min, Bool, true, false, not, ◌||◌, ◌≡◌, refl, ℤ, get_or}
-use mathlib.Core.List.{List, [], ◌∷◌, map}
+use Rattle.std.specs.Prelude.{ℕ, ◌-◌, ◌≤◌, ◌<◌, min, Bool, ◌≡◌, refl, ℤ, get_or}
+use mathlib.Core.List.{List, map}
 use Rattle.std.proofs.Math.Option.{none}
-use Rattle.std.proofs.Common.{sym, ◌∙◌, subst, arith}
+use Rattle.std.proofs.Common.{◌∙◌, subst, arith}
 use Rattle.std.proofs.Math.Path.{ap, ap₂}
 use Rattle.std.proofs.Math.ListN.{length}
 use Rattle.rules.specs.Sizes.{most_kept}
-use Rattle.rules.specs.Ledger.{Entry, Clock, Books, State}
+use Rattle.rules.specs.Ledger.{Entry, Clock, Books}
 use Rattle.rules.specs.Closing.{close}
 use Rattle.rules.specs.Events.{vote, change, voted, changed, closing, take_vote, with_vote, take_change, with_k, accepted}
 use Rattle.rules.specs.Refusals.{refusal}
@@ -18,7 +18,7 @@ use Rattle.tables.specs.Layout.{book_words, sums_words, kept_row, kept_amounts}
 use Rattle.tables.specs.Rows.{row_commit}
 use Rattle.tables.specs.View.{kept_words, entry_at, commit_at, waiting_view, length_waiting, kept_view, values_view, books_view, clock_view, view}
 use Rattle.tables.specs.Voted.{voted_book, ballot, voted_length, voted_counter, voted_kept, voted_waiting}
-use Rattle.tables.specs.Closed.{Desk, Fit, words_of}
+use Rattle.tables.specs.Closed.{Desk, words_of}
 use Rattle.tables.specs.Settled.{Ready, closed_desk, settled_book, settled_view, settled_finishes, settled_count}
 use Rattle.engine.specs.declared.Voted.{Voted}
 use Rattle.engine.specs.declared.Voted.TheVariants.{Stored}

@@ -1,15 +1,15 @@
 -- A run of blank elements laid in from the start, one store after the other; and the sizes stored among them.
 use Prim.Native.Nat.{ℕ, zero, suc, ◌+◌, ◌≤◌, ◌<◌}
 use mathlib.Core.List.{List, [], ◌∷◌, ◌++◌}
-use Rattle.std.specs.Prelude.{◌≡◌, ℤ, pos, take}
+use Rattle.std.specs.Prelude.{◌≡◌}
 use Rattle.std.proofs.Math.Path.{refl, sym, ap}
 use Rattle.std.proofs.Common.{ap₂, ◌∙◌, subst, length-set}
 use native.Mathlib.Omega.{arith}
 use Rattle.std.proofs.Math.ListN.{length, set, drop}
 use Rattle.std.proofs.Math.Seq.{set-append_left}
-use Rattle.laws.specs.Cuts.{put, put_nothing, length_put, set_put_behind}
-use Rattle.tables.specs.Layout.{book_words, sums_words}
-use Rattle.tables.specs.Opened.{blank, length_blank, opened_words, opened_book, opened_sums}
+use Rattle.laws.specs.Cuts.{put, put_nothing, set_put_behind}
+use Rattle.tables.specs.Layout.{book_words}
+use Rattle.tables.specs.Opened.{blank, length_blank, opened_words, opened_book}
 
 -- So many are cleared.
 pub record Cleared {A : Type 0} (l : List A) (x : A) (n : ℕ) (t : List A) (j : ℕ) : Type 0 where

@@ -1,6 +1,6 @@
 -- The row of an identity among those that wait.
-use Rattle.std.specs.Prelude.{ℕ, zero, suc, ◌+◌, ◌≤◌, ◌<◌, Bool, true, false, not, cond, ◌||◌, List, [], ◌∷◌, ◌≡◌, refl, eqb, ℤ, length, get_or}
-use Rattle.std.proofs.Common.{zero-le, suc-le-suc, sym, ap, ◌∙◌, subst, arith, eqb-true}
+use Rattle.std.specs.Prelude.{ℕ, ◌+◌, ◌<◌, true, false, List, [], ◌∷◌, ◌≡◌, refl, eqb, ℤ, length, get_or}
+use Rattle.std.proofs.Common.{zero-le, suc-le-suc, sym, ap, ◌∙◌, arith, eqb-true}
 use Rattle.std.proofs.Math.Option.{none}
 use Rattle.std.proofs.lemmas.Bool.{not-false}
 use Rattle.rules.specs.Lists.{any}
@@ -9,7 +9,7 @@ use Rattle.rules.specs.Events.{vote}
 use Rattle.rules.specs.Refusals.{is_for, waits_for, refusal, checks, vote_checks}
 use Rattle.laws.specs.Tests.{split, never}
 use Rattle.laws.specs.Cuts.{getD_cut}
-use Rattle.laws.specs.Tabs.{tab, length_tab, getD_tab}
+use Rattle.laws.specs.Tabs.{length_tab, getD_tab}
 use Rattle.claims.specs.Refused.{none_applies}
 use Rattle.tables.specs.Layout.{waiting_row}
 use Rattle.tables.specs.Rows.{row_transaction, row_entry}

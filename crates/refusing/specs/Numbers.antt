@@ -1,14 +1,13 @@
 -- The number that refuses an operation is the rules' number, and 0 means that nothing refuses it.
-use Rattle.std.specs.Prelude.{ℕ, zero, suc, ◌+◌, ◌/◌, ◌≤◌, ◌<◌, Bool, true, false, not, cond, ◌&&◌, ◌||◌, List, [], ◌∷◌, ◌≡◌, refl, eqb, ltb}
-use Rattle.std.proofs.Math.Option.{Option, none, some}
-use Rattle.std.proofs.Common.{sym, ap, ◌∙◌, arith, ltb-true, eqb-true, ltb-false, le-ltb}
+use Rattle.std.specs.Prelude.{ℕ, ◌/◌, Bool, true, false, List, [], ◌∷◌, ◌≡◌, refl, ltb}
+use Rattle.std.proofs.Math.Option.{none}
+use Rattle.std.proofs.Common.{sym, ◌∙◌, arith, ltb-true}
 use Rattle.rules.specs.Lists.{all}
-use Rattle.rules.specs.Sizes.{most_waiting}
 use Rattle.rules.specs.Ledger.{State}
-use Rattle.rules.specs.Events.{Event, delivery, vote, change, read, snapshot}
+use Rattle.rules.specs.Events.{Event, delivery, vote, change, read}
 use Rattle.rules.specs.Soundness.{sound}
 use Rattle.rules.specs.Refusals.{Check, first_of, checks, delivery_checks, vote_checks, change_checks, read_checks, refusal, too_little_room, desk_checks}
-use Rattle.laws.specs.Tests.{split, never, and_left, and_right}
+use Rattle.laws.specs.Tests.{split, and_left, and_right}
 use Rattle.refusing.specs.Operands.{number_of, lent_number}
 
 -- No check of the desk has number 0.

@@ -1,5 +1,5 @@
 -- The number that refuses an operation on lent tables, or 0 where nothing does: 15 and 13 first, then the rules' own.
-use Rattle.std.specs.Prelude.{ℕ, zero, suc, ◌/◌, Bool, not, cond, ◌||◌, List, [], ◌∷◌, eqb, ltb, ℤ, length, get_or}
+use Rattle.std.specs.Prelude.{ℕ, suc, ◌/◌, Bool, not, cond, ◌||◌, List, [], ◌∷◌, eqb, ltb, ℤ, length, get_or}
 use Rattle.std.proofs.Math.Option.{Option, none, some}
 use Rattle.rules.specs.Ledger.{State, sizes_fit}
 use Rattle.rules.specs.Events.{Event, delivery, vote, change, read, Snapshot}

@@ -1,5 +1,5 @@
 -- 01, "The log as text": the lines that answer a record.
-use Rattle.std.specs.Prelude.{ℕ, List, [], ◌∷◌, ◌++◌, ℤ}
+use Rattle.std.specs.Prelude.{ℕ, List, [], ◌∷◌, ◌++◌}
 use Rattle.rules.specs.Closing.{Outcome, version, aborts, Finish}
 use Rattle.rules.specs.Events.{Event, delivery, vote, change, read, Answer, refused, waits, aborted, voted, changed, value, Step}
 use Rattle.rules.specs.Bytes.{decimal, signed_text, tab_byte, newline}

@@ -1,5 +1,5 @@
 -- 01, "A program over it reads a log as text and writes the answers": bytes in, bytes out.
-use Rattle.std.specs.Prelude.{ℕ, Bool, true, false, cond, List, [], ◌∷◌, ◌++◌}
+use Rattle.std.specs.Prelude.{ℕ, cond, List, [], ◌∷◌, ◌++◌}
 use Rattle.std.proofs.Math.Option.{Option, none, some}
 use Rattle.rules.specs.Ledger.{State, opening, sizes_fit}
 use Rattle.rules.specs.Events.{Event}

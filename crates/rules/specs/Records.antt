@@ -1,5 +1,5 @@
 -- 01, "The log as text": one line, and the record that it is.
-use Rattle.std.specs.Prelude.{ℕ, Bool, true, false, cond, ◌||◌, List, [], ◌∷◌, eqb, ltb, ℤ, length}
+use Rattle.std.specs.Prelude.{ℕ, Bool, false, cond, List, [], ◌∷◌, eqb, ltb, length}
 use Rattle.std.proofs.Math.Option.{Option, none, some}
 use Rattle.rules.specs.Partitions.{Ballot, aye, nay}
 use Rattle.rules.specs.Ledger.{Write}

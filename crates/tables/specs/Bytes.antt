@@ -3,9 +3,7 @@ use Rattle.std.specs.Prelude.{ℕ, ◌≤◌, ◌<◌, ◌^◌, true, false, not
 use Rattle.std.proofs.Math.Nat.{pow-le-pow_right}
 use Rattle.std.proofs.Common.{arith, leb-false}
 use Rattle.std.proofs.lemmas.Bool.{not-true}
-use Rattle.rules.specs.Lists.{all}
-use Rattle.rules.specs.Partitions.{names, other, beyond, bad_set, from_others, every_partition}
-use Rattle.rules.specs.Ledger.{Entry}
+use Rattle.rules.specs.Partitions.{names, beyond, bad_set, from_others}
 use Rattle.laws.specs.Tests.{or_right, and_left}
 use Rattle.claims.specs.SoundParts.{GoodEntry}
 use Rattle.tables.specs.Rows.{row_transaction, row_entry}

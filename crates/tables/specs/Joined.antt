@@ -1,6 +1,6 @@
 -- Joining: the rows from a place on move up by one, and the newcomer's row is laid into the gap. The waiting list then has it at that place; kept
 -- commits, values and counters see nothing of it.
-use Rattle.std.specs.Prelude.{ℕ, zero, suc, ◌+◌, ◌*◌, ◌-◌, ◌≤◌, ◌<◌, min, List, ◌≡◌, refl, ℤ, length, get_or}
+use Rattle.std.specs.Prelude.{ℕ, suc, ◌+◌, ◌*◌, ◌-◌, ◌≤◌, ◌<◌, min, List, ◌≡◌, refl, ℤ, length, get_or}
 use Rattle.std.proofs.Common.{sym, ap, ◌∙◌, arith}
 use Rattle.std.proofs.Math.Path.{ap₂}
 use Rattle.rules.specs.Lists.{insertAt}

@@ -1,7 +1,6 @@
 // The lengths of the lent tables, and where things stand in them. Document 01, "The ledger's sizes", gives every number.
 #![tactic(auto)]
 
-
 pub const COUNTERS: usize = 6; // partitions, own, SC, DC, k, how many wait
 
 pub const ROW: usize = 24; // eight words, 8 keys read, 8 keys written

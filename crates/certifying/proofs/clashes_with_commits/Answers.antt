@@ -1,8 +1,7 @@
 use Prim.Native.Nat.{◌-◌}
 use native.Mathlib.Omega.{arith}
-use Rattle.tables.specs.Tested.{row_clash}
 use Rattle.tables.specs.View.{kept_words}
-use Rattle.certifying.specs.Walks.{NoneYet, none_start, none_step, none_found, none_end}
+use Rattle.certifying.specs.Walks.{none_start, none_step, none_found, none_end}
 use Rattle.certifying.proofs.clashes_with_commits.Goals as goal
 
 pub loop-j-init : goal.loop-j-init

@@ -1,10 +1,9 @@
 -- A walk on over the versions from SC down: the newcomer clashes with none of the newest j (`NoneYet` of `specs/Walks.antt`). The measure is what is left of them.
 -- Assumes nothing.
 use Prim.Native.Nat.{◌-◌}
-use native.Mathlib.Omega.{arith}
 use Rattle.tables.specs.Tested.{row_clash}
 use Rattle.tables.specs.View.{kept_words}
-use Rattle.certifying.specs.Walks.{NoneYet, none_start, none_step, none_found, none_end}
+use Rattle.certifying.specs.Walks.{NoneYet}
 use Rattle.certifying.proofs.clashes_with_commits.Given as goal
 
 abbrev pub invariant-loop-j : goal.invariant-loop-j

@@ -1,8 +1,5 @@
-use Prim.Native.Nat.{◌-◌}
-use native.Mathlib.Omega.{arith}
-use Rattle.tables.specs.Tested.{row_clash}
 use Rattle.tables.specs.View.{waiting_words}
-use Rattle.certifying.specs.Walks.{NoneYet, none_start, none_step, none_found, none_end}
+use Rattle.certifying.specs.Walks.{none_start, none_step, none_found, none_end}
 use Rattle.certifying.proofs.clashes_with_waiting.Goals as goal
 
 pub loop-i-init : goal.loop-i-init

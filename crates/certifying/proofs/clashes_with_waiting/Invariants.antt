@@ -1,9 +1,8 @@
 -- A walk on: the newcomer clashes with no row before the one looked at (`NoneYet` of `specs/Walks.antt`). The measure is what is left of the rows. Assumes nothing.
 use Prim.Native.Nat.{◌-◌}
-use native.Mathlib.Omega.{arith}
 use Rattle.tables.specs.Tested.{row_clash}
 use Rattle.tables.specs.View.{waiting_words}
-use Rattle.certifying.specs.Walks.{NoneYet, none_start, none_step, none_found, none_end}
+use Rattle.certifying.specs.Walks.{NoneYet}
 use Rattle.certifying.proofs.clashes_with_waiting.Given as goal
 
 abbrev pub invariant-loop-i : goal.invariant-loop-i

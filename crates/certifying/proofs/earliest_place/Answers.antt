@@ -1,5 +1,4 @@
 -- The place reached is the earliest, unless a row before it blocks: then there is none (`place_reached` of `specs/Places.antt`). Assumes nothing.
-use borrow.Author.Rules.{rules}
 use native.Mathlib.Omega.{arith}
 use Rattle.certifying.specs.Answers.{reached_most, free_at, blocked_nowhere}
 use Rattle.certifying.proofs.earliest_place.Goals as goal

@@ -1,9 +1,8 @@
 use Rattle.std.proofs.Common.{ap, not}
 use Prim.Native.Nat.{◌-◌}
 use native.Mathlib.Omega.{arith}
-use Rattle.tables.specs.Tested.{row_passes}
 use Rattle.tables.specs.View.{waiting_words}
-use Rattle.certifying.specs.Walks.{AllFrom, all_start, all_step, all_stopped, all_end}
+use Rattle.certifying.specs.Walks.{all_start, all_step, all_stopped, all_end}
 use Rattle.certifying.proofs.reach.Goals as goal
 
 pub loop-i-init : goal.loop-i-init

@@ -1,9 +1,7 @@
 -- A walk back: every row from i on may be passed (`AllFrom` of `specs/Walks.antt`), so the walk ends at the first such place. The measure is i. Assumes nothing.
-use Prim.Native.Nat.{◌-◌}
-use native.Mathlib.Omega.{arith}
 use Rattle.tables.specs.Tested.{row_passes}
 use Rattle.tables.specs.View.{waiting_words}
-use Rattle.certifying.specs.Walks.{AllFrom, all_start, all_step, all_stopped, all_end}
+use Rattle.certifying.specs.Walks.{AllFrom}
 use Rattle.certifying.proofs.reach.Given as goal
 
 abbrev pub invariant-loop-i : goal.invariant-loop-i

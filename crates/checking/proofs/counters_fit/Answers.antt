@@ -1,7 +1,6 @@
 -- `checking::counters_fit` meets its contract: each counter outside its limit refuses all; where none is, SC decides, against DC less those that wait. Assumes nothing.
 use Rattle.std.proofs.Common.{ap, not}
 use Prim.Native.Nat.{◌<◌}
-use borrow.Author.Rules.{rules}
 use native.Mathlib.Omega.{arith}
 use Rattle.rules.specs.Sizes.{most_waiting}
 use Rattle.checking.specs.Counters.{sizes_fail, dc_beyond, many_waiting, few_delivered, counters_decided}

@@ -1,6 +1,4 @@
-use Prim.Native.Nat.{◌-◌}
-use borrow.Author.Rules.{rules}
-use Rattle.checking.specs.Walks.{Differ, differ_start, differ_next, differ_fails, differ_end}
+use Rattle.checking.specs.Walks.{differ_start, differ_next, differ_fails, differ_end}
 use Rattle.checking.specs.Whole.{identity_at, identities_pass}
 use Rattle.checking.proofs.identities_differ.Goals as goal
 

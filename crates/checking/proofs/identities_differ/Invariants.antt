@@ -1,9 +1,8 @@
 -- `checking::identities_differ` meets its contract: all differ exactly if those still to come do, since none passed stands in a later row (`Differ`).
 -- The measure is how many rows are still to come. Assumes nothing.
 use Prim.Native.Nat.{◌-◌}
-use borrow.Author.Rules.{rules}
-use Rattle.checking.specs.Walks.{Differ, differ_start, differ_next, differ_fails, differ_end}
-use Rattle.checking.specs.Whole.{identity_at, identities_pass}
+use Rattle.checking.specs.Walks.{Differ}
+use Rattle.checking.specs.Whole.{identity_at}
 use Rattle.checking.proofs.identities_differ.Given as goal
 
 abbrev pub invariant-loop-i : goal.invariant-loop-i

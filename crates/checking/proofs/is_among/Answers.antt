@@ -1,6 +1,4 @@
-use Prim.Native.Nat.{◌-◌}
-use borrow.Author.Rules.{rules}
-use Rattle.checking.specs.Walks.{Among, among_start, among_next, among_found, among_end}
+use Rattle.checking.specs.Walks.{among_start, among_next, among_found, among_end}
 use Rattle.checking.specs.Whole.{identity_at}
 use Rattle.checking.proofs.is_among.Goals as goal
 

@@ -1,8 +1,7 @@
 -- `checking::is_among` meets its contract: the identity stands somewhere exactly if it stands in a row still to come, since those passed hold others (`Among`).
 -- The measure is how many rows are still to come. Assumes nothing.
 use Prim.Native.Nat.{◌-◌}
-use borrow.Author.Rules.{rules}
-use Rattle.checking.specs.Walks.{Among, among_start, among_next, among_found, among_end}
+use Rattle.checking.specs.Walks.{Among}
 use Rattle.checking.specs.Whole.{identity_at}
 use Rattle.checking.proofs.is_among.Given as goal
 

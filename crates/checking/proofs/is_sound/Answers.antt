@@ -1,7 +1,6 @@
 -- `checking::is_sound` meets its contract: each test on the tables is a condition of soundness, and the last decides where the others hold; the two conditions
 -- that no test looks at hold of any tables. Assumes nothing.
 use Rattle.std.proofs.Common.{ap, not}
-use borrow.Author.Rules.{rules}
 use native.Mathlib.Omega.{arith}
 use Rattle.checking.specs.Counters.{counters_passed}
 use Rattle.checking.specs.Whole.{counters_fail, kept_fail, identities_fail, sound_decided}

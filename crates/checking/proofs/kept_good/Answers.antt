@@ -1,10 +1,7 @@
 use Rattle.std.proofs.Common.{ap, not}
-use Prim.Native.Nat.{◌-◌}
 use mathlib.Core.Path.{◌∙◌}
-use borrow.Author.Rules.{rules}
 use Rattle.tables.specs.View.{kept_words}
-use Rattle.checking.specs.Walks.{Passing, passing_start, passing_next, passing_fails, passing_end}
-use Rattle.checking.specs.GoodRows.{sets_good}
+use Rattle.checking.specs.Walks.{passing_start, passing_next, passing_fails, passing_end}
 use Rattle.checking.specs.Whole.{newest_words, kept_number}
 use Rattle.checking.proofs.kept_good.Goals as goal
 

@@ -1,12 +1,9 @@
 -- `checking::kept_good` meets its contract: every kept row passes exactly if every one still to come does, since those passed were good (`Passing`).
 -- The measure is how many rows are still to come. Assumes nothing.
 use Prim.Native.Nat.{◌-◌}
-use mathlib.Core.Path.{◌∙◌}
-use borrow.Author.Rules.{rules}
-use Rattle.tables.specs.View.{kept_words}
-use Rattle.checking.specs.Walks.{Passing, passing_start, passing_next, passing_fails, passing_end}
+use Rattle.checking.specs.Walks.{Passing}
 use Rattle.checking.specs.GoodRows.{sets_good}
-use Rattle.checking.specs.Whole.{newest_words, kept_number}
+use Rattle.checking.specs.Whole.{newest_words}
 use Rattle.checking.proofs.kept_good.Given as goal
 
 abbrev pub invariant-loop-j : goal.invariant-loop-j

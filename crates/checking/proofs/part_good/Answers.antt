@@ -1,6 +1,5 @@
 -- `checking::part_good` meets its contract: more than 8 keys are no good set, and up to 8 stand in the table as a part of it. Assumes nothing.
 use Prim.Native.Nat.{◌<◌}
-use borrow.Author.Rules.{rules}
 use native.Mathlib.Omega.{arith}
 use Rattle.rules.specs.Sizes.{most_keys}
 use Rattle.checking.specs.GoodRows.{many_keys, few_keys}

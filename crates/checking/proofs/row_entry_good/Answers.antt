@@ -1,7 +1,6 @@
 -- `checking::row_entry_good` meets its contract: each test is a condition of a good entry on the row's words, and the last decides where the others hold.
 -- Assumes nothing.
 use Rattle.std.proofs.Common.{ap, not}
-use borrow.Author.Rules.{rules}
 use Rattle.checking.specs.GoodRows.{sets_fail, zero_fails, set_fails, set_byte, ayes_fail, nays_fail, row_decided}
 use Rattle.checking.proofs.row_entry_good.Goals as goal
 

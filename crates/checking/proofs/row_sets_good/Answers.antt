@@ -1,6 +1,5 @@
 -- `checking::row_sets_good` meets its contract: the keys read and the keys written of a row are parts of the table, of as many keys as the row says. Assumes nothing.
 use Rattle.std.proofs.Common.{ap, not}
-use borrow.Author.Rules.{rules}
 use Rattle.checking.specs.GoodRows.{reads_fail, sets_decided}
 use Rattle.checking.proofs.row_sets_good.Goals as goal
 

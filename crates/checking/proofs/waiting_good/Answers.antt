@@ -1,9 +1,6 @@
 use Rattle.std.proofs.Common.{ap, not}
-use Prim.Native.Nat.{◌-◌}
-use borrow.Author.Rules.{rules}
 use Rattle.tables.specs.View.{waiting_words}
-use Rattle.checking.specs.Walks.{Passing, passing_start, passing_next, passing_fails, passing_end}
-use Rattle.checking.specs.GoodRows.{row_good}
+use Rattle.checking.specs.Walks.{passing_start, passing_next, passing_fails, passing_end}
 use Rattle.checking.specs.Whole.{waiting_pass}
 use Rattle.checking.proofs.waiting_good.Goals as goal
 

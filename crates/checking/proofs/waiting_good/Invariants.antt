@@ -1,11 +1,9 @@
 -- `checking::waiting_good` meets its contract: every row passes exactly if every row still to come does, since those passed were good (`Passing`).
 -- The measure is how many rows are still to come. Assumes nothing.
 use Prim.Native.Nat.{◌-◌}
-use borrow.Author.Rules.{rules}
 use Rattle.tables.specs.View.{waiting_words}
-use Rattle.checking.specs.Walks.{Passing, passing_start, passing_next, passing_fails, passing_end}
+use Rattle.checking.specs.Walks.{Passing}
 use Rattle.checking.specs.GoodRows.{row_good}
-use Rattle.checking.specs.Whole.{waiting_pass}
 use Rattle.checking.proofs.waiting_good.Given as goal
 
 abbrev pub invariant-loop-i : goal.invariant-loop-i

@@ -2,7 +2,6 @@
 use Rattle.closing.specs.Off.{left_committed, left_aborted, head_bytes, fit_kept, fit_numbers}
 use mathlib.Core.Path.{sym, ◌∙◌}
 use native.Mathlib.Omega.{arith}
-use borrow.Author.Rules.{rules}
 use Rattle.closing.proofs.take_head.Goals as goal
 
 pub is_commit-requires-clause-book_words_in_bounds : goal.is_commit-requires-clause-book_words_in_bounds

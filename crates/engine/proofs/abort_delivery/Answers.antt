@@ -1,6 +1,4 @@
-use native.Mathlib.Omega.{arith}
 use Rattle.engine.specs.Acting.{aborted_result}
-use borrow.Author.Rules.{rules}
 use Rattle.engine.proofs.abort_delivery.Goals as goal
 
 pub returns : goal.returns

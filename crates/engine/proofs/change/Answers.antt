@@ -1,5 +1,4 @@
 use Rattle.engine.specs.Public.{change_refuses, change_asks, change_takes}
-use borrow.Author.Rules.{rules}
 use Rattle.engine.proofs.change.Goals as goal
 
 pub returns-then-number-ne0 : goal.returns-then-number-ne0

@@ -1,5 +1,4 @@
 use Rattle.engine.specs.Public.{delivery_refused, delivery_accepting, delivery_taken}
-use borrow.Author.Rules.{rules}
 use Rattle.engine.proofs.deliver.Goals as goal
 
 pub returns-then-number-ne0 : goal.returns-then-number-ne0

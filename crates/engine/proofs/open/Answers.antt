@@ -1,5 +1,4 @@
 use Rattle.engine.specs.Public.{opening_refuses, opening_long, opening_takes}
-use borrow.Author.Rules.{rules}
 use Rattle.engine.proofs.open.Goals as goal
 
 pub returns-then-number-ne0 : goal.returns-then-number-ne0

@@ -1,5 +1,4 @@
 use Rattle.engine.specs.Reads.{reading_at}
-use borrow.Author.Rules.{rules}
 use Rattle.engine.proofs.read.Goals as goal
 
 pub returns-in-At : goal.returns-in-At

@@ -1,5 +1,4 @@
 use Rattle.engine.specs.Storing.{change_settles, change_taken}
-use borrow.Author.Rules.{rules}
 use Rattle.engine.proofs.take_change.Goals as goal
 
 pub settle-requires : goal.settle-requires

@@ -1,7 +1,5 @@
 use Rattle.engine.specs.Taking.{numbers, judgeable, abort_ready, abort_taken, join_within, join_ready, join_taken}
-use mathlib.Core.Path.{sym, ◌∙◌}
 use native.Mathlib.Omega.{arith}
-use borrow.Author.Rules.{rules}
 use Rattle.engine.proofs.take_delivery.Goals as goal
 
 pub overflow_add-dc : goal.overflow_add-dc

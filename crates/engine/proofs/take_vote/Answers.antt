@@ -1,5 +1,4 @@
 use Rattle.engine.specs.Storing.{vote_settles, vote_taken}
-use borrow.Author.Rules.{rules}
 use Rattle.engine.proofs.take_vote.Goals as goal
 
 pub settle-requires : goal.settle-requires

@@ -1,6 +1,5 @@
 use Rattle.engine.specs.Public.{vote_refuses, vote_tables, votable_at, vote_takes_at}
 use native.Mathlib.Omega.{arith}
-use borrow.Author.Rules.{rules}
 use Rattle.engine.proofs.vote.Goals as goal
 
 pub returns-then-number-ne0 : goal.returns-then-number-ne0

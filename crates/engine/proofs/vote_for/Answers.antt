@@ -1,6 +1,5 @@
 use Rattle.engine.specs.Acting.{sent_local, sent_yes, sent_no}
 use mathlib.Core.Path.{sym, ◌∙◌}
-use borrow.Author.Rules.{rules}
 use Rattle.engine.proofs.vote_for.Goals as goal
 
 pub returns-then-is_local : goal.returns-then-is_local

@@ -1,5 +1,4 @@
 -- The word stored is what `masks::with` makes of the word that stood there.
-use borrow.Author.Rules.{rules}
 use Rattle.joining.proofs.add_voter.Goals as goal
 
 pub returns : goal.returns

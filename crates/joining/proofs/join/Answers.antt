@@ -1,5 +1,4 @@
 -- The gap, and the newcomer laid into it: the two contracts one after the other, for the words and for the amounts.
-use borrow.Author.Rules.{rules}
 use Rattle.joining.specs.Stores.{row_joined, sums_joined}
 use Rattle.joining.proofs.join.Goals as goal
 

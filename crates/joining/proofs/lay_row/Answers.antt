@@ -1,5 +1,4 @@
 -- The three lists laid in, each over what the one before left, are the row.
-use borrow.Author.Rules.{rules}
 use Rattle.joining.specs.Stores.{row_laid}
 use Rattle.joining.proofs.lay_row.Goals as goal
 

@@ -1,6 +1,5 @@
 -- Moving the rows from the place on up by one row leaves the gap.
 use mathlib.Core.Path.{◌∙◌}
-use borrow.Author.Rules.{rules}
 use Rattle.joining.specs.Stores.{gap_opened}
 use Rattle.joining.proofs.open_gap.Goals as goal
 

@@ -1,6 +1,5 @@
 -- Moving the amounts from the place on up by one row leaves the gap.
 use mathlib.Core.Path.{◌∙◌}
-use borrow.Author.Rules.{rules}
 use Rattle.joining.specs.Stores.{sums_gap_opened}
 use Rattle.joining.proofs.open_sums_gap.Goals as goal
 

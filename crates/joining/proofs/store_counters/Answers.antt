@@ -1,6 +1,5 @@
 -- Four stores one behind the other lay the four counters in.
 use native.Mathlib.Omega.{arith}
-use borrow.Author.Rules.{rules}
 use lib.ListN.{length-set}
 use Rattle.joining.specs.Stores.{stores_put}
 use Rattle.joining.proofs.store_counters.Goals as goal

@@ -1,6 +1,5 @@
 -- Eight stores one behind the other lay the eight words in.
 use native.Mathlib.Omega.{arith}
-use borrow.Author.Rules.{rules}
 use lib.ListN.{length-set}
 use Rattle.joining.specs.Stores.{eight_stored}
 use Rattle.joining.proofs.store_first.Goals as goal

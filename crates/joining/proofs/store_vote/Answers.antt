@@ -1,6 +1,5 @@
 -- Either way the contract of `add_voter` is the definition of the table with the vote.
 -- Either way the contract of `add_voter` is the definition of the table with the vote.
-use borrow.Author.Rules.{rules}
 use Rattle.joining.specs.Stores.{aye_stored, nay_stored}
 use Rattle.joining.proofs.store_vote.Goals as goal
 

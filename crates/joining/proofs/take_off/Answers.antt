@@ -1,5 +1,4 @@
 -- Moving the rows behind the head down by one row is what the tables without the head are defined by.
-use borrow.Author.Rules.{rules}
 use Rattle.tables.specs.TakenOff.{off_book, off_sums}
 use Rattle.joining.proofs.take_off.Goals as goal
 

@@ -1,6 +1,5 @@
 -- Two stores one behind the other lay the finish entry in.
 use native.Mathlib.Omega.{arith}
-use borrow.Author.Rules.{rules}
 use lib.ListN.{length-set}
 use Rattle.joining.specs.Stores.{two_stored}
 use Rattle.joining.proofs.tell.Goals as goal

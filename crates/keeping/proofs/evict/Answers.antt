@@ -1,5 +1,4 @@
 -- Below 64 commits nothing is folded in; else the row of version sc + 1 is that of the oldest kept, and good.
-use borrow.Author.Rules.{rules}
 use Rattle.keeping.specs.Folding.{none_evicted, one_evicted, oldest_fits}
 use Rattle.keeping.proofs.evict.Goals as goal
 

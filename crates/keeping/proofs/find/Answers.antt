@@ -1,7 +1,4 @@
-use Prim.Native.Nat.{◌-◌}
-use borrow.Author.Rules.{rules}
-use lib.ListN.{length}
-use Rattle.keeping.specs.Places.{Seeking, seek_start, seek_hit, seek_next, seek_end, at_found, nothing_found}
+use Rattle.keeping.specs.Places.{seek_start, seek_hit, seek_next, seek_end, at_found, nothing_found}
 use Rattle.keeping.proofs.find.Goals as goal
 
 pub loop-j-init : goal.loop-j-init

@@ -1,8 +1,7 @@
 -- The keys passed are not the key looked for: `Seeking` of `specs/Places.antt`. The measure is what is left of the list.
 use Prim.Native.Nat.{◌-◌}
-use borrow.Author.Rules.{rules}
 use lib.ListN.{length}
-use Rattle.keeping.specs.Places.{Seeking, seek_start, seek_hit, seek_next, seek_end, at_found, nothing_found}
+use Rattle.keeping.specs.Places.{Seeking}
 use Rattle.keeping.proofs.find.Given as goal
 
 abbrev pub invariant-loop-j : goal.invariant-loop-j

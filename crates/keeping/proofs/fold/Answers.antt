@@ -2,7 +2,7 @@ use native.Mathlib.Omega.{arith}
 use borrow.Author.Rules.{rules}
 use mir.Syntax.{w64}
 use mir.Facts.{to_z-of_z}
-use Rattle.keeping.specs.Folding.{Folding, fold_start, fold_in, fold_step, fold_end}
+use Rattle.keeping.specs.Folding.{fold_start, fold_in, fold_step, fold_end}
 use Rattle.keeping.proofs.fold.Goals as goal
 
 pub loop-j-init : goal.loop-j-init

@@ -1,8 +1,5 @@
 -- From the last write to the first each is one store into the values, under those stored before: `Folding` of `specs/Folding.antt` is the rule `written` read from behind. The measure is how many writes are left.
-use native.Mathlib.Omega.{arith}
-use borrow.Author.Rules.{rules}
-use mir.Facts.{to_z-of_z}
-use Rattle.keeping.specs.Folding.{Folding, fold_start, fold_in, fold_step, fold_end}
+use Rattle.keeping.specs.Folding.{Folding}
 use Rattle.keeping.proofs.fold.Given as goal
 
 abbrev pub invariant-loop-j : goal.invariant-loop-j

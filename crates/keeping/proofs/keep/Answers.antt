@@ -1,5 +1,4 @@
 -- The contracts of the three calls, one after the other, are the definitions of the tables after the commit.
-use borrow.Author.Rules.{rules}
 use Rattle.keeping.specs.Folding.{row_kept, sums_kept}
 use Rattle.keeping.proofs.keep.Goals as goal
 

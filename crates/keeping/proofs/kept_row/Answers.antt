@@ -1,6 +1,5 @@
 -- The row is the one that the layout gives the version: the same computation, so nothing is left to show at the end.
 use mathlib.Core.Path.{refl}
-use borrow.Author.Rules.{rules}
 use Rattle.keeping.proofs.kept_row.Goals as goal
 
 pub returns : goal.returns

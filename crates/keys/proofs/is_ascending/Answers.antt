@@ -1,8 +1,5 @@
-use Prim.Native.Nat.{◌-◌, ◌≤◌}
-use mathlib.Core.Path.{◌≡◌, sym, ◌∙◌}
+use mathlib.Core.Path.{sym, ◌∙◌}
 use borrow.Author.Rules.{rules}
-use lib.ListN.{length, drop}
-use Rattle.rules.specs.Keys.{ascending}
 use Rattle.keys.specs.Ascending.{ascending_step, ascending_fails, ascending_short}
 use Rattle.keys.proofs.is_ascending.Goals as goal
 

@@ -1,9 +1,7 @@
-use Prim.Native.Nat.{◌-◌, ◌≤◌}
-use mathlib.Core.Path.{◌≡◌, sym, ◌∙◌, ap}
+use mathlib.Core.Path.{sym, ◌∙◌, ap}
 use mathlib.Core.Bool.{not}
 use borrow.Author.Rules.{rules}
-use lib.ListN.{length}
-use Rattle.keys.specs.Limits.{bad_from, bad_here, bad_later, bad_nowhere, bad_found, bad_order}
+use Rattle.keys.specs.Limits.{bad_here, bad_later, bad_nowhere, bad_found, bad_order}
 use Rattle.keys.proofs.is_bad.Goals as goal
 
 pub returns-then-keys-i-ge-KEYS : goal.returns-then-keys-i-ge-KEYS

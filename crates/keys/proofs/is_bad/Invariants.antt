@@ -1,11 +1,9 @@
 -- `keys::is_bad` meets its contract: a key over 1,023 stands from the place looked at on exactly if one stands anywhere; where none does, the order decides.
 -- The measure is what is left of the list. Assumes nothing.
 use Prim.Native.Nat.{◌-◌, ◌≤◌}
-use mathlib.Core.Path.{◌≡◌, sym, ◌∙◌, ap}
-use mathlib.Core.Bool.{not}
-use borrow.Author.Rules.{rules}
+use mathlib.Core.Path.{◌≡◌}
 use lib.ListN.{length}
-use Rattle.keys.specs.Limits.{bad_from, bad_here, bad_later, bad_nowhere, bad_found, bad_order}
+use Rattle.keys.specs.Limits.{bad_from}
 use Rattle.keys.proofs.is_bad.Given as goal
 
 abbrev pub invariant-loop-i : goal.invariant-loop-i

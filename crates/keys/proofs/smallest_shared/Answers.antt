@@ -1,8 +1,5 @@
-use Prim.Native.Nat.{◌+◌, ◌-◌, ◌≤◌}
-use mathlib.Core.Path.{◌≡◌, ◌∙◌}
+use mathlib.Core.Path.{◌∙◌}
 use borrow.Author.Rules.{rules}
-use lib.ListN.{length}
-use Rattle.rules.specs.Keys.{shared}
 use Rattle.keys.specs.Answers.{some_answered, none_answered}
 use Rattle.keys.specs.Merge.{shared_from, shared_met, shared_one, shared_other, shared_end_one, shared_end_other}
 use Rattle.keys.proofs.smallest_shared.Goals as goal

@@ -1,12 +1,10 @@
 -- `keys::smallest_shared` meets its contract: what the lists share from the two places looked at on is what they share at all, since the smaller of two keys is in
 -- neither rest of the other list. The measure is what is left of both. Assumes nothing.
 use Prim.Native.Nat.{◌+◌, ◌-◌, ◌≤◌}
-use mathlib.Core.Path.{◌≡◌, ◌∙◌}
-use borrow.Author.Rules.{rules}
+use mathlib.Core.Path.{◌≡◌}
 use lib.ListN.{length}
 use Rattle.rules.specs.Keys.{shared}
-use Rattle.keys.specs.Answers.{some_answered, none_answered}
-use Rattle.keys.specs.Merge.{shared_from, shared_met, shared_one, shared_other, shared_end_one, shared_end_other}
+use Rattle.keys.specs.Merge.{shared_from}
 use Rattle.keys.proofs.smallest_shared.Given as goal
 
 abbrev pub invariant-loop-i : goal.invariant-loop-i

@@ -1,5 +1,4 @@
 -- `masks::every_vote_yes` meets its contract: the mask of the others that said no is empty exactly where none of them did. Assumes nothing.
-use borrow.Author.Rules.{rules}
 use Rattle.masks.specs.Votes.{none_said_no}
 use Rattle.masks.proofs.every_vote_yes.Goals as goal
 

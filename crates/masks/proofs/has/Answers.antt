@@ -1,5 +1,4 @@
 -- `masks::has` meets its contract: a shift to the right brings partition p's bit to the front, and a word has no bit from 32 on. Assumes nothing.
-use borrow.Author.Rules.{rules}
 use Rattle.masks.specs.Operations.{names_shifted, names_outside}
 use Rattle.masks.proofs.has.Goals as goal
 

@@ -1,5 +1,4 @@
 -- `masks::is_local` meets its contract: the set of our own alone is a 1 shifted by our own. Assumes nothing.
-use borrow.Author.Rules.{rules}
 use Rattle.masks.specs.Sets.{local_shift}
 use Rattle.masks.proofs.is_local.Goals as goal
 

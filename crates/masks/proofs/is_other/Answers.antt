@@ -1,6 +1,5 @@
 -- `masks::is_other` meets its contract: our own partition is none of the others, and any other is one exactly if the set names it. Assumes nothing.
 use mathlib.Core.Path.{◌∙◌}
-use borrow.Author.Rules.{rules}
 use Rattle.masks.specs.Sets.{own_is_no_other, other_is_named}
 use Rattle.masks.proofs.is_other.Goals as goal
 

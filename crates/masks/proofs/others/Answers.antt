@@ -1,5 +1,4 @@
 -- `masks::others` meets its contract: the mask names what the set names and the set of our own alone does not. Assumes nothing.
-use borrow.Author.Rules.{rules}
 use Rattle.masks.specs.Votes.{others_mask}
 use Rattle.masks.proofs.others.Goals as goal
 

@@ -1,5 +1,4 @@
 -- `masks::outstanding` meets its contract: the mask names the others that neither the ayes nor the nays name. Assumes nothing.
-use borrow.Author.Rules.{rules}
 use Rattle.masks.specs.Votes.{outstanding_mask}
 use Rattle.masks.proofs.outstanding.Goals as goal
 

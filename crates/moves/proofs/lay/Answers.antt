@@ -1,8 +1,5 @@
-use Prim.Native.Nat.{◌-◌}
 use mathlib.Core.Path.{refl}
-use native.Mathlib.Omega.{arith}
-use lib.ListN.{length}
-use Rattle.moves.specs.Steps.{Laid, lay_start, lay_step, lay_end}
+use Rattle.moves.specs.Steps.{lay_start, lay_step, lay_end}
 use Rattle.moves.proofs.lay.Goals as goal
 
 pub loop-j-init : goal.loop-j-init

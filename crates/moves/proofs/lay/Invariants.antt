@@ -1,9 +1,7 @@
 -- Each turn lays one more behind those that are laid in: `Laid` of `specs/Steps.antt` says what the table is after j words. The measure is what is left to lay in.
 use Prim.Native.Nat.{◌-◌}
-use mathlib.Core.Path.{refl}
-use native.Mathlib.Omega.{arith}
 use lib.ListN.{length}
-use Rattle.moves.specs.Steps.{Laid, lay_start, lay_step, lay_end}
+use Rattle.moves.specs.Steps.{Laid}
 use Rattle.moves.proofs.lay.Given as goal
 
 abbrev pub invariant-loop-j : goal.invariant-loop-j

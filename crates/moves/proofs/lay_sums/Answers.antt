@@ -1,11 +1,8 @@
-use Prim.Native.Nat.{◌-◌}
-use native.Mathlib.Omega.{arith}
-use lib.ListN.{length}
 use lib.IntN.{pos}
 use borrow.Author.Rules.{rules}
 use mir.Syntax.{w64}
 use mir.Facts.{to_z-of_z}
-use Rattle.moves.specs.Steps.{Laid, lay_start, lay_step, lay_end}
+use Rattle.moves.specs.Steps.{lay_start, lay_step, lay_end}
 use Rattle.moves.proofs.lay_sums.Goals as goal
 
 pub loop-j-init : goal.loop-j-init

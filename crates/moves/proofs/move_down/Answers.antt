@@ -1,7 +1,5 @@
-use Prim.Native.Nat.{◌-◌}
 use mathlib.Core.Path.{refl}
-use native.Mathlib.Omega.{arith}
-use Rattle.moves.specs.Steps.{Down, move_down_start, move_down_step, move_down_end}
+use Rattle.moves.specs.Steps.{move_down_start, move_down_step, move_down_end}
 use Rattle.moves.proofs.move_down.Goals as goal
 
 pub loop-j-init : goal.loop-j-init

@@ -1,10 +1,8 @@
-use Prim.Native.Nat.{◌-◌}
-use native.Mathlib.Omega.{arith}
 use lib.IntN.{pos}
 use borrow.Author.Rules.{rules}
 use mir.Syntax.{w64}
 use mir.Facts.{to_z-of_z}
-use Rattle.moves.specs.Steps.{Down, move_down_start, move_down_step, move_down_end}
+use Rattle.moves.specs.Steps.{move_down_start, move_down_step, move_down_end}
 use Rattle.moves.proofs.move_sums_down.Goals as goal
 
 pub loop-j-init : goal.loop-j-init

@@ -3,7 +3,7 @@ use lib.IntN.{pos}
 use borrow.Author.Rules.{rules}
 use mir.Syntax.{w64}
 use mir.Facts.{to_z-of_z}
-use Rattle.moves.specs.Steps.{Up, move_up_start, move_up_step, move_up_end}
+use Rattle.moves.specs.Steps.{move_up_start, move_up_step, move_up_end}
 use Rattle.moves.proofs.move_sums_up.Goals as goal
 
 pub loop-j-init : goal.loop-j-init

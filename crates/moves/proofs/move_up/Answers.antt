@@ -1,6 +1,6 @@
 use mathlib.Core.Path.{refl}
 use native.Mathlib.Omega.{arith}
-use Rattle.moves.specs.Steps.{Up, move_up_start, move_up_step, move_up_end}
+use Rattle.moves.specs.Steps.{move_up_start, move_up_step, move_up_end}
 use Rattle.moves.proofs.move_up.Goals as goal
 
 pub loop-j-init : goal.loop-j-init

@@ -1,7 +1,5 @@
 -- Words go up from the last on, so what is read was not yet written: `Up` of `specs/Steps.antt` says what the table is when all but the first j are moved. The measure is j.
-use mathlib.Core.Path.{refl}
-use native.Mathlib.Omega.{arith}
-use Rattle.moves.specs.Steps.{Up, move_up_start, move_up_step, move_up_end}
+use Rattle.moves.specs.Steps.{Up}
 use Rattle.moves.proofs.move_up.Given as goal
 
 abbrev pub invariant-loop-j : goal.invariant-loop-j

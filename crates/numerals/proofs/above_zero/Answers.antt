@@ -1,5 +1,4 @@
 -- `numerals::above_zero` meets its contract: the lower half of the bits is the number itself. Assumes nothing.
-use borrow.Author.Rules.{rules}
 use Rattle.numerals.specs.Signs.{above_is}
 use Rattle.numerals.proofs.above_zero.Goals as goal
 

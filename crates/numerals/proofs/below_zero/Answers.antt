@@ -1,5 +1,4 @@
 -- `numerals::below_zero` meets its contract: m steps below -1 is in the range for every m below 2 ^ 63. Assumes nothing.
-use borrow.Author.Rules.{rules}
 use Rattle.numerals.specs.Signs.{below_fits, below_value}
 use Rattle.numerals.proofs.below_zero.Goals as goal
 

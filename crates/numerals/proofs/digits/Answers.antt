@@ -1,8 +1,5 @@
-use Prim.Native.Nat.{◌-◌}
-use native.Mathlib.Omega.{arith}
-use lib.ListN.{length}
 use Rattle.numerals.specs.Answers.{number_value, number_unreadable}
-use Rattle.numerals.specs.Reading.{Reads, read_start, read_step, read_end, read_stops_below, read_stops_above, read_stops_tens, read_stops_ones}
+use Rattle.numerals.specs.Reading.{read_start, read_step, read_end, read_stops_below, read_stops_above, read_stops_tens, read_stops_ones}
 use Rattle.numerals.proofs.digits.Goals as goal
 
 pub loop-i-init : goal.loop-i-init

@@ -1,10 +1,8 @@
 -- `numerals::digits` meets its contract: what is left to read behind the value so far is what was to be read at first (`Reads` of `specs/Reading.antt`), and a value over the
 -- limit only grows. The two tests against the limit let no product and no sum overflow. The measure is what is left of the bytes. Assumes nothing.
 use Prim.Native.Nat.{◌-◌}
-use native.Mathlib.Omega.{arith}
 use lib.ListN.{length}
-use Rattle.numerals.specs.Answers.{number_value, number_unreadable}
-use Rattle.numerals.specs.Reading.{Reads, read_start, read_step, read_end, read_stops_below, read_stops_above, read_stops_tens, read_stops_ones}
+use Rattle.numerals.specs.Reading.{Reads}
 use Rattle.numerals.proofs.digits.Given as goal
 
 abbrev pub invariant-loop-i : goal.invariant-loop-i

@@ -1,7 +1,4 @@
-use Prim.Native.Nat.{◌-◌}
-use borrow.Author.Rules.{rules}
-use lib.ListN.{length}
-use Rattle.numerals.specs.Parts.{Seeking, seek_start, seek_step, seek_found, seek_none}
+use Rattle.numerals.specs.Parts.{seek_start, seek_step, seek_found, seek_none}
 use Rattle.numerals.proofs.find.Goals as goal
 
 pub loop-j-init : goal.loop-j-init

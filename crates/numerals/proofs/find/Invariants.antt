@@ -1,9 +1,8 @@
 -- `numerals::find` meets its contract: the search has passed no c since i (`Seeking` of `specs/Parts.antt`), so where it stops is how far the part from i reaches.
 -- The measure is what is left of the bytes. Assumes nothing.
 use Prim.Native.Nat.{◌-◌}
-use borrow.Author.Rules.{rules}
 use lib.ListN.{length}
-use Rattle.numerals.specs.Parts.{Seeking, seek_start, seek_step, seek_found, seek_none}
+use Rattle.numerals.specs.Parts.{Seeking}
 use Rattle.numerals.proofs.find.Given as goal
 
 abbrev pub invariant-loop-j : goal.invariant-loop-j

@@ -1,6 +1,5 @@
 -- `numerals::is_well_led` meets its contract: the rules' test goes by the same three shapes, no byte, one byte, more. Assumes nothing.
 use mathlib.Core.Path.{sym}
-use borrow.Author.Rules.{rules}
 use Rattle.numerals.specs.Reading.{led_nothing, led_alone, led_first}
 use Rattle.numerals.proofs.is_well_led.Goals as goal
 

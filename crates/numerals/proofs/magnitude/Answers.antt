@@ -1,6 +1,5 @@
 -- `numerals::magnitude` meets its contract: a value below zero is mirrored at -1, which stays in the range, and its magnitude is one more. Assumes nothing.
 use mathlib.Core.Path.{sym, ◌∙◌}
-use borrow.Author.Rules.{rules}
 use Rattle.numerals.specs.Signs.{mirrored_fits, mirrored_cast, mirrored_more, mirrored_magnitude, magnitude_cast}
 use Rattle.numerals.proofs.magnitude.Goals as goal
 

@@ -1,5 +1,5 @@
 -- `numerals::negative` meets its contract: a number that was read, is within its limit and isn't 0 is one step more than a value below zero needs. Assumes nothing.
-use mathlib.Core.Path.{sym, ◌∙◌}
+use mathlib.Core.Path.{◌∙◌}
 use borrow.Author.Rules.{rules}
 use native.Mathlib.Omega.{arith}
 use mir.Syntax.{w64}

@@ -1,5 +1,5 @@
 -- `numerals::plain` meets its contract: a number that was read is within its limit, so it is a value as it stands. Assumes nothing.
-use mathlib.Core.Path.{sym, ◌∙◌}
+use mathlib.Core.Path.{◌∙◌}
 use borrow.Author.Rules.{rules}
 use native.Mathlib.Omega.{arith}
 use mir.Syntax.{w64}

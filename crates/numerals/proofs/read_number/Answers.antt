@@ -1,6 +1,5 @@
 -- `numerals::read_number` meets its contract: the rules look at the leading digit, and then at what `digits` answers. Assumes nothing.
 use mathlib.Core.Path.{sym, ap, ◌∙◌}
-use borrow.Author.Rules.{rules}
 use Rattle.numerals.specs.Answers.{number_of, number_unreadable}
 use Rattle.numerals.specs.Reading.{number_led, number_unled}
 use Rattle.numerals.proofs.read_number.Goals as goal

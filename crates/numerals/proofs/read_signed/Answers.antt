@@ -1,6 +1,5 @@
 -- `numerals::read_signed` meets its contract: the rules go by the first byte too, and each way is what its function answers. Assumes nothing.
 use mathlib.Core.Path.{sym, ap, ◌∙◌}
-use borrow.Author.Rules.{rules}
 use Rattle.numerals.specs.Answers.{amount_of, amount_unreadable}
 use Rattle.numerals.specs.Amounts.{signed_nothing, signed_minus, signed_plain}
 use Rattle.numerals.proofs.read_signed.Goals as goal

@@ -1,5 +1,4 @@
 -- `numerals::write_byte` meets its contract: one store is a text of one byte laid over the buffer. Assumes nothing.
-use borrow.Author.Rules.{rules}
 use Rattle.numerals.specs.Writing.{wrote_byte}
 use Rattle.numerals.proofs.write_byte.Goals as goal
 

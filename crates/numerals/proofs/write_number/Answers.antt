@@ -1,5 +1,4 @@
 -- `numerals::write_number` meets its contract: a 64-bit number has at most 20 digits. Assumes nothing.
-use borrow.Author.Rules.{rules}
 use Rattle.numerals.specs.Writing.{room_number}
 use Rattle.numerals.proofs.write_number.Goals as goal
 

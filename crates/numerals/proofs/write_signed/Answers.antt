@@ -1,6 +1,5 @@
 -- `numerals::write_signed` meets its contract: a value's text is its magnitude's, behind a minus where it is below zero, and a magnitude has at most 19 digits. Assumes nothing.
 use mathlib.Core.Path.{sym, ◌∙◌}
-use borrow.Author.Rules.{rules}
 use mir.Facts.{to_z-of_z}
 use Rattle.numerals.specs.Writing.{room_plain, room_below, wrote_plain, wrote_below}
 use Rattle.numerals.proofs.write_signed.Goals as goal

@@ -1,7 +1,4 @@
-use Rattle.opening.specs.Clearing.{Cleared, clear_start, clear_step, clear_end}
-use lib.IntN.{pos}
-use mathlib.Core.Path.{refl}
-use native.Mathlib.Omega.{arith}
+use Rattle.opening.specs.Clearing.{Cleared}
 use Prim.Native.Nat.{◌-◌}
 use Rattle.opening.proofs.clear.Given as goal
 

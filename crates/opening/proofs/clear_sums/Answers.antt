@@ -1,8 +1,5 @@
-use Rattle.opening.specs.Clearing.{Cleared, clear_start, clear_step, clear_end}
-use lib.IntN.{pos}
+use Rattle.opening.specs.Clearing.{clear_start, clear_step, clear_end}
 use mathlib.Core.Path.{refl}
-use native.Mathlib.Omega.{arith}
-use Prim.Native.Nat.{◌-◌}
 use Rattle.opening.proofs.clear_sums.Goals as goal
 
 pub loop-j-init : goal.loop-j-init

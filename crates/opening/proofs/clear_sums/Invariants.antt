@@ -1,7 +1,5 @@
-use Rattle.opening.specs.Clearing.{Cleared, clear_start, clear_step, clear_end}
+use Rattle.opening.specs.Clearing.{Cleared}
 use lib.IntN.{pos}
-use mathlib.Core.Path.{refl}
-use native.Mathlib.Omega.{arith}
 use Prim.Native.Nat.{◌-◌}
 use Rattle.opening.proofs.clear_sums.Given as goal
 

@@ -1,7 +1,6 @@
 -- src/lib.rt:50:5
 use Rattle.opening.specs.Clearing.{stored_sizes}
 use Rattle.tables.specs.Opened.{opened_sums}
-use borrow.Author.Rules.{rules}
 use Rattle.opening.proofs.open_tables.Goals as goal
 
 pub returns-clause-book_after : goal.returns-clause-book_after

@@ -1,7 +1,6 @@
 -- src/lib.rt:39:5
 use lib.ListN.{length-set}
 use native.Mathlib.Omega.{arith}
-use borrow.Author.Rules.{rules}
 use Rattle.opening.proofs.store_sizes.Goals as goal
 
 pub bounds-book-1 : goal.bounds-book-1

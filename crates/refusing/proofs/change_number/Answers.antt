@@ -1,5 +1,4 @@
 -- `refusing::change_number` meets its contract: 15 and 13 come first, and k decides on tables that hold a sound state. Assumes nothing.
-use borrow.Author.Rules.{rules}
 use Rattle.refusing.specs.Ways.{change_lent, change_beyond, change_taken}
 use Rattle.refusing.proofs.change_number.Goals as goal
 

@@ -1,5 +1,4 @@
 -- `refusing::delivery_number` meets its contract: 15 and 13 come first, and the rules decide on tables that hold a sound state. Assumes nothing.
-use borrow.Author.Rules.{rules}
 use Rattle.refusing.specs.Lending.{lent_usable}
 use Rattle.refusing.specs.Ways.{delivery_lent, delivery_uneven, delivery_ruled}
 use Rattle.refusing.proofs.delivery_number.Goals as goal

@@ -1,7 +1,5 @@
 -- `refusing::delivery_refusal` meets its contract: each test that holds gives its number behind those that don't; an identity waits if its row is among
 -- those of the waiting list. Assumes nothing.
-use native.Mathlib.Omega.{arith}
-use borrow.Author.Rules.{rules}
 use Rattle.refusing.specs.Operands.{waiting_identities}
 use Rattle.refusing.specs.Deliveries.{operands_refused, identity_zero, waits_now, late_decides}
 use Rattle.refusing.proofs.delivery_refusal.Goals as goal

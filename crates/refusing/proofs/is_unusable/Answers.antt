@@ -1,6 +1,5 @@
 -- `refusing::is_unusable` meets its contract: short tables are of no use, and of tables that are long enough soundness decides. Assumes nothing.
 use mathlib.Core.Path.{sym, ◌∙◌}
-use borrow.Author.Rules.{rules}
 use Rattle.refusing.specs.Lending.{short_unusable, sound_decides, book_long, sums_long}
 use Rattle.refusing.proofs.is_unusable.Goals as goal
 

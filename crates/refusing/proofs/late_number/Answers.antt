@@ -1,6 +1,4 @@
 -- `refusing::late_number` meets its contract: each test that holds gives its number behind those that don't. Assumes nothing.
-use native.Mathlib.Omega.{arith}
-use borrow.Author.Rules.{rules}
 use Rattle.refusing.specs.Deliveries.{snapshot_refused, list_full, last_delivery, none_late}
 use Rattle.refusing.proofs.late_number.Goals as goal
 

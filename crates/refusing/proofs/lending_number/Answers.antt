@@ -1,6 +1,5 @@
 -- `refusing::lending_number` meets its contract: 64 words are 32 entries, and the two tests stand in the order of 15 and 13. Assumes nothing.
 use mathlib.Core.Path.{sym, ◌∙◌}
-use borrow.Author.Rules.{rules}
 use Rattle.refusing.specs.Lending.{little_room, unusable_refused, lent_well}
 use Rattle.refusing.proofs.lending_number.Goals as goal
 

@@ -1,7 +1,6 @@
 -- `refusing::newest_number` meets its contract: 13 comes first, and the rules decide on tables that hold a sound state, at its SC. Assumes nothing.
 use mathlib.Core.Path.{sym, ◌∙◌}
 use native.Mathlib.Omega.{arith}
-use borrow.Author.Rules.{rules}
 use Rattle.rules.specs.Events.{snapshot}
 use Rattle.tables.specs.View.{view, books_view}
 use Rattle.refusing.specs.Lending.{usable}

@@ -1,7 +1,6 @@
 -- `refusing::opening_number` meets its contract: short tables refuse it, and the sizes decide where they are long enough. Assumes nothing.
 use Rattle.std.proofs.Common.{ap, not}
 use mathlib.Core.Path.{sym, ◌∙◌}
-use borrow.Author.Rules.{rules}
 use Rattle.refusing.specs.Lending.{opening_short, opening_unfit, opening_taken}
 use Rattle.refusing.proofs.opening_number.Goals as goal
 

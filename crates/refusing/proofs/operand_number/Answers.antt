@@ -1,7 +1,6 @@
 -- `refusing::operand_number` meets its contract: each test that holds gives its number behind those that don't; two tests share the number 2, and two the number 3.
 -- Assumes nothing.
 use mathlib.Core.Path.{sym, ◌∙◌}
-use borrow.Author.Rules.{rules}
 use Rattle.refusing.specs.Deliveries.{set_refused, many_reads, many_keys, reads_refused, keys_refused, operands_taken}
 use Rattle.refusing.proofs.operand_number.Goals as goal
 

@@ -1,7 +1,6 @@
 -- `refusing::read_number` meets its contract: 13 comes first, and the rules decide on tables that hold a sound state. Assumes nothing.
 use mathlib.Core.Path.{sym, ◌∙◌}
 use native.Mathlib.Omega.{arith}
-use borrow.Author.Rules.{rules}
 use Rattle.rules.specs.Events.{snapshot}
 use Rattle.refusing.specs.Lending.{usable}
 use Rattle.refusing.specs.Ways.{read_unusable, read_ruled}

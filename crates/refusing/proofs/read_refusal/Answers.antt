@@ -1,5 +1,4 @@
 -- `refusing::read_refusal` meets its contract: the key comes first, and the snapshot decides where it is taken. Assumes nothing.
-use borrow.Author.Rules.{rules}
 use Rattle.refusing.specs.Snapshots.{key_beyond, key_taken}
 use Rattle.refusing.proofs.read_refusal.Goals as goal
 

@@ -1,8 +1,4 @@
-use Prim.Native.Nat.{◌-◌}
-use native.Mathlib.Omega.{arith}
-use lib.ListN.{get_or}
-use Rattle.tables.specs.Layout.{waiting_row}
-use Rattle.refusing.specs.Seeking.{Seeking, seeking_start, seeking_found, seeking_next, seeking_end}
+use Rattle.refusing.specs.Seeking.{seeking_start, seeking_found, seeking_next, seeking_end}
 use Rattle.refusing.proofs.row_of.Goals as goal
 
 pub loop-i-init : goal.loop-i-init

@@ -1,10 +1,9 @@
 -- `refusing::row_of` meets its contract: the index looked for is the rows passed and the index among those still to come (`Seeking`).
 -- The measure is how many rows are still to come. Assumes nothing.
 use Prim.Native.Nat.{◌-◌}
-use native.Mathlib.Omega.{arith}
 use lib.ListN.{get_or}
 use Rattle.tables.specs.Layout.{waiting_row}
-use Rattle.refusing.specs.Seeking.{Seeking, seeking_start, seeking_found, seeking_next, seeking_end}
+use Rattle.refusing.specs.Seeking.{Seeking}
 use Rattle.refusing.proofs.row_of.Given as goal
 
 abbrev pub invariant-loop-i : goal.invariant-loop-i

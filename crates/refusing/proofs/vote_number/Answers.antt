@@ -1,5 +1,4 @@
 -- `refusing::vote_number` meets its contract: 15 and 13 come first, and the rules decide on tables that hold a sound state. Assumes nothing.
-use borrow.Author.Rules.{rules}
 use Rattle.refusing.specs.Lending.{lent_usable}
 use Rattle.refusing.specs.Ways.{vote_lent, vote_ruled}
 use Rattle.refusing.proofs.vote_number.Goals as goal

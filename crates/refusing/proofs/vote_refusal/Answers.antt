@@ -1,9 +1,7 @@
 -- `refusing::vote_refusal` meets its contract: each test of the row that was found gives its number behind those that don't hold. Assumes nothing.
 use Rattle.std.proofs.Common.{ap, not}
 use mathlib.Core.Path.{sym, ◌∙◌}
-use native.Mathlib.Omega.{arith}
 use borrow.Author.Tests.{not-true, not-false}
-use borrow.Author.Rules.{rules}
 use Rattle.refusing.specs.Operands.{waiting_identities}
 use Rattle.refusing.specs.Votes.{none_waits, not_involved, said_yes, said_no, vote_taken}
 use Rattle.refusing.proofs.vote_refusal.Goals as goal

@@ -1,7 +1,6 @@
 -- A local head commits; of a global one the votes decide. Assumes nothing.
 use Rattle.closing.specs.Heads.{commits_local, commits_votes}
 use mathlib.Core.Path.{sym, ◌∙◌}
-use borrow.Author.Rules.{rules}
 use Rattle.closing.proofs.head.is_commit.Goals as goal
 
 pub returns-then-is_local : goal.returns-then-is_local

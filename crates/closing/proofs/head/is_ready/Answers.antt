@@ -1,7 +1,6 @@
 -- The tests of readiness in their order. Assumes nothing.
 use Rattle.closing.specs.Heads.{ready_local, ready_early, ready_votes}
 use mathlib.Core.Path.{sym, ◌∙◌}
-use borrow.Author.Rules.{rules}
 use Rattle.closing.proofs.head.is_ready.Goals as goal
 
 pub returns-then-is_local : goal.returns-then-is_local

@@ -1,7 +1,5 @@
 use Rattle.engine.specs.Judging.{judged_by_commit, judged_local, judged_by_entry, judged_at_end}
 use mathlib.Core.Path.{sym, ◌∙◌}
-use borrow.Author.Tests.{not-true, not-false}
-use borrow.Author.Rules.{rules}
 use Rattle.engine.proofs.judging.judge.Goals as goal
 
 pub clashes_with_commits-requires-clause-book_words_in_bounds : goal.clashes_with_commits-requires-clause-book_words_in_bounds

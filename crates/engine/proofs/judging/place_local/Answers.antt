@@ -1,6 +1,5 @@
 use Rattle.engine.specs.Judging.{placed_at, placed_nowhere}
-use mathlib.Core.Path.{sym, ◌∙◌}
-use borrow.Author.Rules.{rules}
+use mathlib.Core.Path.{sym}
 use Rattle.engine.proofs.judging.place_local.Goals as goal
 
 pub earliest_place-requires-clause-book_words_in_bounds : goal.earliest_place-requires-clause-book_words_in_bounds
