@@ -3,7 +3,8 @@
 
 usage: python3 tools/respell_names.py, once, at the top of the repository, after the kit's own scripts.
 
-An own name is one with a dash that a file of specs/ declares or binds; what comes from a library keeps its spelling. The names are turned
+An own name is one with a dash that a file of specs/ declares or binds; what comes from a library keeps its spelling. Two more go by a table:
+`insertAt`, and `getD`, a word of the library that is `get_or` today, in the names of lemmas on it. The names are turned
 in specs/, in proofs/, in the contracts of src/, in must-fail edits and in the pages. It stops before it writes where two names would fall together.
 In the edits, projections are written tight too (`b.sc` for `b .sc`), as the kit's scripts write them everywhere else.
 """
@@ -11,10 +12,14 @@ import glob
 import re
 import sys
 
-WORD = re.compile(r"(?<![\w'-])[A-Za-z][\w']*(?:-[\w']+)+(?![\w'-])")
+WORD = re.compile(r"(?<![\w'-])(?:[A-Za-z][\w']*(?:-[\w']+)+|insertAt)(?![\w'-])")
 DECLARED = re.compile(r"\s*(?:(?:pub|abbrev|unfoldable|record|data|ruleset) )*([A-Za-z][\w'-]*) :")
 IMPORT = re.compile(r"\s*use ([\w.+-]+)\.\{([^}]*)\}")
 OURS = {line.split(":")[0].strip() for line in open("crates.txt") if ":" in line and not line.startswith("#")}
+
+
+def spelled(name):
+    return name.replace("insertAt", "insert_at").replace("getD", "get_or").replace("-", "_")
 
 
 def code(text):
@@ -34,7 +39,7 @@ def names():
         plain.update(re.findall(r"(?<![\w'-])[A-Za-z]\w*_[\w']*(?![\w'-])", text))
         for line in text.split("\n"):
             found = DECLARED.match(line)
-            if found and "-" in found.group(1):
+            if found and WORD.fullmatch(found.group(1)):
                 declared.add(found.group(1))
             found = IMPORT.match(line)
             if found and from_outside(found.group(1)):
@@ -42,7 +47,7 @@ def names():
     own = (declared | seen) - lent
     turned = {}
     for name in sorted(own):
-        new = name.replace("-", "_")
+        new = spelled(name)
         if new in turned.values() or new in plain:
             sys.exit("respell_names: %s falls together with another name; nothing was written" % name)
         turned[name] = new
@@ -60,12 +65,12 @@ def main():
     proofs = {name: turned[name] for name in declared if name in turned}
 
     def turn(path, words, kept=()):
-        def spelled(m):
-            new = m.group(0).replace("-", "_")
+        def turned_word(m):
+            new = spelled(m.group(0))
             return words.get(m.group(0), new if new in kept else m.group(0))
 
         text = open(path).read()
-        new = WORD.sub(spelled, text)
+        new = WORD.sub(turned_word, text)
         if path.endswith(".edit") and re.search(r"^file: specs/", new, flags=re.M):
             new = "\n".join(tight(line) if line.startswith(("old:", "new:")) else line for line in new.split("\n"))
         if new != text:

@@ -2,7 +2,7 @@
 use Rattle.std.specs.Prelude.{ℕ, ◌+◌, ◌-◌, ◌≤◌, true, List, ◌≡◌, length, take, drop, get_or}
 use Rattle.std.proofs.Common.{sym, ap, ◌∙◌, arith}
 use Rattle.rules.specs.Keys.{ascending}
-use Rattle.laws.specs.Cuts.{cut, getD_cut}
+use Rattle.laws.specs.Cuts.{cut, get_or_cut}
 use Rattle.tables.specs.Rows.{row_reads, row_keys}
 use Rattle.tables.specs.Good.{GoodRow, reads_part, keys_part}
 
@@ -27,8 +27,8 @@ pub record RowAt (book : List ℕ) (o : ℕ) : Type 0 where
 
 pub row_at : (book : List ℕ) (o : ℕ) → o + 24 ≤ length book → GoodRow (cut o 24 book) → RowAt book o
 row_at book o fits row =
-    let count_reads = getD_cut o 24 book 6 0 (omega arith) in
-    let count_keys = getD_cut o 24 book 7 0 (omega arith) in
+    let count_reads = get_or_cut o 24 book 6 0 (omega arith) in
+    let count_keys = get_or_cut o 24 book 7 0 (omega arith) in
     let few = row.few_reads in
     let few_written = row.few_keys in
     let reads = reads_part book o fits few ∙ cut_is_part (o + 8) (get_or (cut o 24 book) 6 0) (get_or book (o + 6) 0) book count_reads in

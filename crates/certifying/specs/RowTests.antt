@@ -6,16 +6,16 @@ use Rattle.std.proofs.Common.{ap, ◌∙◌, arith}
 use borrow.Author.Tests.{le-leb, lt-leb, not-true, not-false}
 use Rattle.rules.specs.Keys.{meet}
 use Rattle.rules.specs.Partitions.{only}
-use Rattle.laws.specs.Cuts.{cut, getD_cut}
+use Rattle.laws.specs.Cuts.{cut, get_or_cut}
 use Rattle.tables.specs.Tested.{row_clash, row_blocks, row_passes}
 use Rattle.certifying.specs.Parts.{part, RowAt}
 
 -- The words of a row that a test asks for: its partition set, its rt.
 set_word : (book : List ℕ) (o : ℕ) → get_or (cut o 24 book) 1 0 ≡ get_or book (o + 1) 0
-set_word book o = getD_cut o 24 book 1 0 (omega arith)
+set_word book o = get_or_cut o 24 book 1 0 (omega arith)
 
 rt_word : (book : List ℕ) (o : ℕ) → get_or (cut o 24 book) 3 0 ≡ get_or book (o + 3) 0
-rt_word book o = getD_cut o 24 book 3 0 (omega arith)
+rt_word book o = get_or_cut o 24 book 3 0 (omega arith)
 
 module _ {book : List ℕ} {o : ℕ} (row : RowAt book o) where
   -- The row blocks where the newcomer's reads and the keys that the row writes meet.

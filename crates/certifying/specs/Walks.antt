@@ -6,7 +6,7 @@ use Rattle.std.proofs.Common.{sym, ap, ◌∙◌, below_more, arith, drop_of_len
 use Rattle.std.proofs.lemmas.Bool.{not-true, not-false}
 use Rattle.rules.specs.Lists.{any, all}
 use Rattle.laws.specs.Tests.{or_first, or_second, or_neither, and_both}
-use Rattle.laws.specs.Tabs.{tab, length_tab, getD_tab}
+use Rattle.laws.specs.Tabs.{tab, length_tab, get_or_tab}
 use Rattle.certifying.specs.Places.{Reached}
 
 -- None of the first i values passes the test; there are n.
@@ -36,7 +36,7 @@ module _ {A : Type 0} where
   -- the value at k, in front of those behind it
   tab_from : (f : ℕ → A) (n k : ℕ) → k < n → drop k (tab n f) ≡ f k ∷ drop (suc k) (tab n f)
   tab_from f n k low =
-      drop-cons (tab n f) k (f 0) (rw (length_tab n f) low) ∙ ap (λ (x : A). x ∷ drop (suc k) (tab n f)) (getD_tab n f k (f 0) low)
+      drop-cons (tab n f) k (f 0) (rw (length_tab n f) low) ∙ ap (λ (x : A). x ∷ drop (suc k) (tab n f)) (get_or_tab n f k (f 0) low)
 
   all_from : (pass : A → Bool) (f : ℕ → A) (n k i : ℕ) → suc k ≡ i → i ≤ n → all pass (drop k (tab n f)) ≡ (pass (f k) && all pass (drop i (tab n f)))
   all_from pass f n k i e low =

@@ -9,7 +9,7 @@ use Rattle.rules.specs.Partitions.{names, bad_set, from_others}
 use Rattle.rules.specs.Keys.{bad_keys, good_set}
 use Rattle.rules.specs.Soundness.{good_commit, good_entry}
 use Rattle.laws.specs.Tests.{split, never, and_left, and_right, and_both, or_right}
-use Rattle.laws.specs.Cuts.{cut, getD_cut}
+use Rattle.laws.specs.Cuts.{cut, get_or_cut}
 use Rattle.claims.specs.SoundParts.{entry_facts, entry_test}
 use Rattle.tables.specs.Rows.{row_reads, row_keys, row_transaction, row_entry, row_commit, row_writes_keys}
 use Rattle.tables.specs.Good.{length_row_reads, length_row_keys, reads_part, keys_part}
@@ -48,13 +48,13 @@ module _ (book : List ℕ) (o : ℕ) (room : o + 24 ≤ length book) where
   reads_good : good_set (row_reads (cut o 24 book)) ≡ part_of book o 6 8
   reads_good =
       let w = cut o 24 book in
-      let count : get_or w 6 0 ≡ get_or book (o + 6) 0 = getD_cut o 24 book 6 0 (omega arith) in
+      let count : get_or w 6 0 ≡ get_or book (o + 6) 0 = get_or_cut o 24 book 6 0 (omega arith) in
       rw count at (set_part (row_reads w) (cut (o + 8) (get_or w 6 0) book) (get_or w 6 0) (length_row_reads w) (reads_part book o room))
 
   written_good : good_set (row_keys (cut o 24 book)) ≡ part_of book o 7 16
   written_good =
       let w = cut o 24 book in
-      let count : get_or w 7 0 ≡ get_or book (o + 7) 0 = getD_cut o 24 book 7 0 (omega arith) in
+      let count : get_or w 7 0 ≡ get_or book (o + 7) 0 = get_or_cut o 24 book 7 0 (omega arith) in
       rw count at (set_part (row_keys w) (cut (o + 16) (get_or w 7 0) book) (get_or w 7 0) (length_row_keys w) (keys_part book o room))
 
   -- Each way out of the test of the two sets.
@@ -91,7 +91,7 @@ record RowGood (partitions own dc : ℕ) (book : List ℕ) (o : ℕ) : Type 0 wh
 pub first_word : (book : List ℕ) (o : ℕ) → get_or (cut o 24 book) 0 0 ≡ get_or book o 0
 first_word book o =
     let e : o + 0 ≡ o = omega arith in
-    getD_cut o 24 book 0 0 (omega arith) ∙ ap (λ (k : ℕ). get_or book k 0) e
+    get_or_cut o 24 book 0 0 (omega arith) ∙ ap (λ (k : ℕ). get_or book k 0) e
 
 module _ (partitions own dc : ℕ) (book : List ℕ) (o : ℕ) where
   row_facts : row_good partitions own dc (cut o 24 book) ≡ true → RowGood partitions own dc book o
@@ -99,25 +99,25 @@ module _ (partitions own dc : ℕ) (book : List ℕ) (o : ℕ) where
   row_facts h =
       let w = cut o 24 book in
       let g = entry_facts partitions own dc (row_entry w []) h in
-      let set : get_or w 1 0 ≡ get_or book (o + 1) 0 = getD_cut o 24 book 1 0 (omega arith) in
-      let ayes : get_or w 4 0 ≡ get_or book (o + 4) 0 = getD_cut o 24 book 4 0 (omega arith) in
-      let nays : get_or w 5 0 ≡ get_or book (o + 5) 0 = getD_cut o 24 book 5 0 (omega arith) in
+      let set : get_or w 1 0 ≡ get_or book (o + 1) 0 = get_or_cut o 24 book 1 0 (omega arith) in
+      let ayes : get_or w 4 0 ≡ get_or book (o + 4) 0 = get_or_cut o 24 book 4 0 (omega arith) in
+      let nays : get_or w 5 0 ≡ get_or book (o + 5) 0 = get_or_cut o 24 book 5 0 (omega arith) in
       record {
         sets = and_both (good_set (row_reads w)) (good_set (row_keys w)) g.reads_good (ap good_set (sym (row_writes_keys w [])) ∙ g.writes_good);
         nonzero = λ z. eqb-false (get_or w 0 0) 0 g.nonzero (first_word book o ∙ z);
         set_good = ap (bad_set partitions own) (sym set) ∙ g.set_good;
         ayes_involved = ap₂ (from_others own) (sym set) (sym ayes) ∙ g.ayes_involved;
         nays_involved = ap₂ (from_others own) (sym set) (sym nays) ∙ g.nays_involved;
-        rt_near = subst (λ (x : ℕ). x ≤ dc + most_k) (getD_cut o 24 book 3 0 (omega arith)) g.rt_near;
+        rt_near = subst (λ (x : ℕ). x ≤ dc + most_k) (get_or_cut o 24 book 3 0 (omega arith)) g.rt_near;
       }
 
   row_test : RowGood partitions own dc book o → row_good partitions own dc (cut o 24 book) ≡ true
   unfolding row_good row_entry row_transaction sets_good
   row_test g =
       let w = cut o 24 book in
-      let set : get_or w 1 0 ≡ get_or book (o + 1) 0 = getD_cut o 24 book 1 0 (omega arith) in
-      let ayes : get_or w 4 0 ≡ get_or book (o + 4) 0 = getD_cut o 24 book 4 0 (omega arith) in
-      let nays : get_or w 5 0 ≡ get_or book (o + 5) 0 = getD_cut o 24 book 5 0 (omega arith) in
+      let set : get_or w 1 0 ≡ get_or book (o + 1) 0 = get_or_cut o 24 book 1 0 (omega arith) in
+      let ayes : get_or w 4 0 ≡ get_or book (o + 4) 0 = get_or_cut o 24 book 4 0 (omega arith) in
+      let nays : get_or w 5 0 ≡ get_or book (o + 5) 0 = get_or_cut o 24 book 5 0 (omega arith) in
       entry_test partitions own dc (row_entry w [])
       record {
         reads_good = and_left (good_set (row_reads w)) (good_set (row_keys w)) g.sets;
@@ -126,7 +126,7 @@ module _ (partitions own dc : ℕ) (book : List ℕ) (o : ℕ) where
         set_good = ap (bad_set partitions own) set ∙ g.set_good;
         ayes_involved = ap₂ (from_others own) set ayes ∙ g.ayes_involved;
         nays_involved = ap₂ (from_others own) set nays ∙ g.nays_involved;
-        rt_near = subst (λ (x : ℕ). x ≤ dc + most_k) (sym (getD_cut o 24 book 3 0 (omega arith))) g.rt_near;
+        rt_near = subst (λ (x : ℕ). x ≤ dc + most_k) (sym (get_or_cut o 24 book 3 0 (omega arith))) g.rt_near;
       }
 
   -- Each way out of the test, by the answer that led there.

@@ -8,7 +8,7 @@ use Rattle.std.proofs.Math.Numerals.{add-one}
 use Rattle.std.proofs.Math.ListN.{length, drop, drop_of_length-le}
 use Rattle.rules.specs.Lists.{all, member}
 use Rattle.rules.specs.Soundness.{different}
-use Rattle.laws.specs.Tabs.{tab, length_tab, getD_tab}
+use Rattle.laws.specs.Tabs.{tab, length_tab, get_or_tab}
 
 module _ {A : Type 0} where
   -- g i, .., g (n - 1): those still to come.
@@ -19,7 +19,7 @@ module _ {A : Type 0} where
   unfolding rest
   rest_here n g i low =
       let within : i < length (tab n g) = rw (length_tab n g) low in
-      rw add-one (drop-cons (tab n g) i (g i) within ∙ ap (λ (x : A). x ∷ drop (suc i) (tab n g)) (getD_tab n g i (g i) low))
+      rw add-one (drop-cons (tab n g) i (g i) within ∙ ap (λ (x : A). x ∷ drop (suc i) (tab n g)) (get_or_tab n g i (g i) low))
 
   rest_none : (n : ℕ) (g : ℕ → A) (i : ℕ) → n ≤ i → rest n g i ≡ []
   unfolding rest

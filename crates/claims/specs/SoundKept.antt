@@ -4,7 +4,7 @@ use Rattle.std.proofs.Math.Bool.{true}
 use Rattle.std.proofs.Common.{sym, ap, ◌∙◌, arith, length-set, ne_eqb}
 use Rattle.std.proofs.Math.ListN.{length-take}
 use Rattle.std.proofs.lemmas.Bool.{eqb-false, not-true}
-use Rattle.rules.specs.Lists.{any, all, member, insertAt}
+use Rattle.rules.specs.Lists.{any, all, member, insert_at}
 use Rattle.rules.specs.Sizes.{most_waiting, most_kept, most_dc}
 use Rattle.rules.specs.Ledger.{Write, Entry, Commit, Clock, Books, keys_of}
 use Rattle.rules.specs.Delivery.{Fate, abort, join, ticked, joined}
@@ -21,12 +21,12 @@ unlike : (a b : ℕ) → eqb a b ≡ false → eqb b a ≡ false
 unlike a b h = ne_eqb b a (λ q. eqb-false a b h (sym q))
 
 -- A number that is new to a list of different ones may be put in anywhere.
-pub different_insert : (i x : ℕ) (xs : List ℕ) → member x xs ≡ false → different xs ≡ true → different (insertAt i x xs) ≡ true
+pub different_insert : (i x : ℕ) (xs : List ℕ) → member x xs ≡ false → different xs ≡ true → different (insert_at i x xs) ≡ true
 unfolding different
 different_insert zero x xs new h = and_both (not (member x xs)) (different xs) (ap not new) h
 different_insert (suc i) x [] new h = refl
 different_insert (suc i) x (y ∷ ys) new h =
-    and_both (not (member y (insertAt i x ys))) (different (insertAt i x ys))
+    and_both (not (member y (insert_at i x ys))) (different (insert_at i x ys))
     (ap not
     (none_insert (eqb y) i x ys (unlike x y (or_left (eqb x y) (member x ys) new))
     (not-true (member y ys) (and_left (not (member y ys)) (different ys) h))))
@@ -71,7 +71,7 @@ tick_sound c waiting b l h =
 -- A good newcomer under a new identity joins at any place.
 insert_sound : (c : Clock) (i : ℕ) (e : Entry) (waiting : List Entry) (b : Books) → Room c waiting b
     → any (is_for e.transaction.identity) waiting ≡ false → good_entry c.partitions c.own c.dc e ≡ true
-    → Sound c waiting b → Sound c (insertAt i e waiting) b
+    → Sound c waiting b → Sound c (insert_at i e waiting) b
 insert_sound c i e waiting b room new good h =
     record {
       sizes = h.sizes;

@@ -3,14 +3,14 @@ use Rattle.std.specs.Prelude.{ℕ, ◌+◌, ◌<◌, ◌≤◌, Bool, true, fals
 use Rattle.std.proofs.Common.{arith, le-leb}
 use Rattle.std.proofs.lemmas.Bool.{lt-leb}
 use Rattle.rules.specs.Partitions.{only, any_outstanding, every_vote_yes}
-use Rattle.laws.specs.Cuts.{getD_cut}
+use Rattle.laws.specs.Cuts.{get_or_cut}
 use Rattle.tables.specs.View.{waiting_words}
 use Rattle.tables.specs.Tested.{row_ready, row_commits}
 
 -- A word of the head's row stands six words further in the table.
 pub head_word : (book : List ℕ) (j : ℕ) → j < 24 → get_or (waiting_words book 0) j 0 ≡ get_or book (6 + j) 0
 unfolding waiting_words
-head_word book j low = getD_cut 6 24 book j 0 low
+head_word book j low = get_or_cut 6 24 book j 0 low
 
 module _ (own dc : ℕ) (book : List ℕ) where
   ready_words : row_ready own dc (waiting_words book 0)

@@ -3,7 +3,7 @@ use Rattle.std.specs.Prelude.{ℕ, suc, ◌+◌, ◌*◌, ◌-◌, ◌≤◌, �
 use Rattle.std.proofs.Common.{sym, ap, ◌∙◌, subst, arith}
 use Rattle.rules.specs.Ledger.{Clock}
 use Rattle.rules.specs.Closing.{ready, commits, finish}
-use Rattle.laws.specs.Cuts.{put, getD_cut}
+use Rattle.laws.specs.Cuts.{put, get_or_cut}
 use Rattle.tables.specs.Rows.{row_transaction, row_entry}
 use Rattle.tables.specs.View.{waiting_words, entry_at, length_waiting, books_view}
 use Rattle.tables.specs.TakenOff.{off_book, off_sums}
@@ -27,7 +27,7 @@ head_commits c d = commits_row c (waiting_words d.book 0) _
 
 head_identity : (d : Desk) → (head_of d).transaction.identity ≡ get_or d.book 6 0
 unfolding entry_at row_entry row_transaction waiting_words
-head_identity d = getD_cut 6 24 d.book 0 0 (omega arith)
+head_identity d = get_or_cut 6 24 d.book 0 0 (omega arith)
 
 -- The two ways.
 off_committed : (c : Clock) (n : ℕ) (d : Desk) → row_commits c.own (waiting_words d.book 0) ≡ true

@@ -8,7 +8,7 @@ use Rattle.std.proofs.Math.Path.{refl, ap, ap₂}
 use native.Mathlib.Omega.{arith}
 use Rattle.std.proofs.Math.Dec.{eqb}
 use Rattle.std.proofs.Math.ListN.{length}
-use Rattle.rules.specs.Lists.{insertAt}
+use Rattle.rules.specs.Lists.{insert_at}
 use Rattle.rules.specs.Sizes.{most_keys, most_waiting, most_kept, floor}
 use Rattle.rules.specs.Partitions.{only, none_heard}
 use Rattle.rules.specs.Keys.{too_many}
@@ -167,7 +167,7 @@ module _ (identity set st : ℕ) (reads keys : List ℕ) (amounts : List ℤ) (b
       let e : n + 1 ≡ suc n = omega arith in
       ap (λ (m : ℕ). waiting_view m (joined_book book n i (first_words identity set st (c.dc + c.k) reads keys) reads keys) (joined_sums sums n i amounts)) e
       ∙ (joined_waiting book sums n i identity set st (c.dc + c.k) reads keys amounts h.long h.long_sums ok.list_open (within i q) ok.few_reads ok.few_keys h.same
-      ∙ ap (λ (x : Entry). insertAt i x (waiting_view n book sums)) (newcomer_entered c identity set st reads keys amounts))
+      ∙ ap (λ (x : Entry). insert_at i x (waiting_view n book sums)) (newcomer_entered c identity set st reads keys amounts))
 
   desk_books : (f : Fate) → the_fate ≡ f → books_view (desk_at f).sc (desk_at f).book (desk_at f).sums ≡ books_view sc book sums
   unfolding delivery_desk

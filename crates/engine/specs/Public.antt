@@ -13,7 +13,7 @@ use Rattle.rules.specs.Events.{Event, delivery, vote, change, with_k}
 use Rattle.rules.specs.Refusals.{is_for, refusal, checks, vote_checks, too_little_room}
 use Rattle.laws.specs.Tests.{split, or_left, or_right, and_left}
 use Rattle.tables.specs.Layout.{book_words, sums_words, waiting_row}
-use Rattle.laws.specs.Cuts.{getD_cut}
+use Rattle.laws.specs.Cuts.{get_or_cut}
 use Rattle.laws.specs.Bits.{names_within}
 use Rattle.laws.specs.Tabs.{tab}
 use Rattle.claims.specs.Refused.{none_applies}
@@ -143,7 +143,7 @@ any_tab_at f (suc m) g h (suc i) low = any_tab_at f m (λ j. g (suc j)) (or_righ
 
 row_word : (book : List ℕ) (i j : ℕ) → j < 24 → get_or (waiting_words book i) j 0 ≡ get_or book (6 + 24 * i + j) 0
 unfolding waiting_words
-row_word book i j low = getD_cut (6 + 24 * i) 24 book j 0 low
+row_word book i j low = get_or_cut (6 + 24 * i) 24 book j 0 low
 
 is_its : (e : Entry) (x : ℕ) → e.transaction.identity ≡ x → is_for x e ≡ true
 is_its e x q = eq-eqb e.transaction.identity x q

@@ -9,8 +9,8 @@ use Rattle.std.proofs.lemmas.List.{set-append_left}
 use Rattle.rules.specs.Sizes.{keys, most_kept}
 use Rattle.rules.specs.Ledger.{Write}
 use Rattle.rules.specs.Closing.{written}
-use Rattle.laws.specs.Cuts.{cut, put, getD_cut, length_cut, getD_put_above}
-use Rattle.laws.specs.Tabs.{tab, length_tab, getD_tab}
+use Rattle.laws.specs.Cuts.{cut, put, get_or_cut, length_cut, get_or_put_above}
+use Rattle.laws.specs.Tabs.{tab, length_tab, get_or_tab}
 use Rattle.claims.specs.SoundKept.{length_written}
 use Rattle.tables.specs.Layout.{book_words, sums_words, waiting_row, waiting_amounts, kept_row, kept_amounts}
 use Rattle.tables.specs.Rows.{row_writes}
@@ -44,7 +44,7 @@ unfolding row_writes write_at
 writes_from w a i j e low =
     let ws = tab (get_or w 7 0) (write_at w a) in
     drop-cons ws i (write_at w a 0) (rw (length_tab (get_or w 7 0) (write_at w a)) low)
-    ∙ ap₂ (λ (x : Write) (k : ℕ). x ∷ drop k ws) (getD_tab (get_or w 7 0) (write_at w a) i (write_at w a 0) low) e
+    ∙ ap₂ (λ (x : Write) (k : ℕ). x ∷ drop k ws) (get_or_tab (get_or w 7 0) (write_at w a) i (write_at w a 0) low) e
 
 none_left : (w : List ℕ) (a : List ℤ) (n : ℕ) → n ≡ get_or w 7 0 → drop n (row_writes w a) ≡ []
 unfolding row_writes write_at
@@ -106,8 +106,8 @@ module _ {book : List ℕ} {sums t : List ℤ} {v j : ℕ} (row key : ℕ) (kept
       let this_value : x ≡ get_or a (j - 1) (pos 0) =
       e_x
       ∙ (ap (λ (l : List ℤ). get_or l (amounts + (j - 1)) (pos 0)) kept.done
-      ∙ (getD_put_above sums 0 vs (amounts + (j - 1)) (pos 0) (omega arith) (omega arith)
-      ∙ (ap (λ (m : ℕ). get_or sums (m + (j - 1)) (pos 0)) e_amounts ∙ sym (getD_cut (kept_amounts v) 8 sums (j - 1) (pos 0) (omega arith))))) in
+      ∙ (get_or_put_above sums 0 vs (amounts + (j - 1)) (pos 0) (omega arith) (omega arith)
+      ∙ (ap (λ (m : ℕ). get_or sums (m + (j - 1)) (pos 0)) e_amounts ∙ sym (get_or_cut (kept_amounts v) 8 sums (j - 1) (pos 0) (omega arith))))) in
       record {
         most = omega arith;
         done =

@@ -5,8 +5,8 @@ use Rattle.std.proofs.Common.{◌∙◌}
 use native.Mathlib.Omega.{arith}
 use Rattle.std.proofs.Math.ListN.{take, get_or}
 use Rattle.rules.specs.Sizes.{keys}
-use Rattle.laws.specs.Cuts.{cut, getD_cut}
-use Rattle.laws.specs.Tabs.{length_tab, getD_tab}
+use Rattle.laws.specs.Cuts.{cut, get_or_cut}
+use Rattle.laws.specs.Tabs.{length_tab, get_or_tab}
 use Rattle.tables.specs.Layout.{book_words, kept_row}
 use Rattle.tables.specs.Rows.{row_keys}
 use Rattle.tables.specs.View.{kept_words}
@@ -17,7 +17,7 @@ use Rattle.keeping.specs.Places.{seek, found_of}
 -- A word of a kept row, by its place in the table.
 pub word_at : (book : List ℕ) (v j : ℕ) → j < 24 → get_or (kept_words book v) j 0 ≡ get_or book (kept_row v + j) 0
 unfolding kept_words
-word_at book v j low = getD_cut (kept_row v) 24 book j 0 low
+word_at book v j low = get_or_cut (kept_row v) 24 book j 0 low
 
 pub key_at : (book : List ℕ) (v row i : ℕ) → row ≡ kept_row v → i < 8 → get_or book (row + 16 + i) 0 ≡ get_or (kept_words book v) (16 + i) 0
 key_at book v row i e low =
@@ -27,7 +27,7 @@ key_at book v row i e low =
 pub key_low : (w : List ℕ) (i : ℕ) → GoodRow w → i < get_or w 7 0 → get_or w (16 + i) 0 < keys
 unfolding row_keys
 key_low w i good low =
-    let at = getD_tab (get_or w 7 0) (λ j. get_or w (16 + j) 0) i 0 low in
+    let at = get_or_tab (get_or w 7 0) (λ j. get_or w (16 + j) 0) i 0 low in
     let below = good.keys_good.low i (rw (length_tab (get_or w 7 0) (λ j. get_or w (16 + j) 0)) low) in
     rw at at below
 

@@ -10,7 +10,7 @@ use Rattle.std.proofs.Math.ListN.{get_or}
 use Rattle.rules.specs.Sizes.{keys, most_kept, floor}
 use Rattle.rules.specs.Ledger.{Commit}
 use Rattle.rules.specs.Read.{else_value, newest_value, read_at}
-use Rattle.laws.specs.Cuts.{cut, getD_cut}
+use Rattle.laws.specs.Cuts.{cut, get_or_cut}
 use Rattle.laws.specs.Tabs.{tab, tab_as, tab_same, drop_tab}
 use Rattle.tables.specs.Layout.{kept_amounts}
 use Rattle.tables.specs.Rows.{row_keys, row_commit}
@@ -53,7 +53,7 @@ module _ (book : List ℕ) (sums : List ℤ) (key : ℕ) where
       let count : v - lowest ≡ 0 = omega arith in
       let place : 0 + key ≡ key = omega arith in
       ap (λ (n : ℕ). newest_value key (tab n (λ j. commit_at book sums (v - j))) (cut 0 keys sums)) count
-      ∙ (getD_cut 0 keys sums key (pos 0) low ∙ ap (λ (k : ℕ). get_or sums k (pos 0)) place)
+      ∙ (get_or_cut 0 keys sums key (pos 0) low ∙ ap (λ (k : ℕ). get_or sums k (pos 0)) place)
 
   pub read_start : (sc st lowest : ℕ) → lowest ≡ floor sc → st ≤ sc → sc ≤ st + 64 → Reading book sums sc key st lowest st
   unfolding newest_down read_at books_view kept_view
@@ -87,7 +87,7 @@ module _ {book : List ℕ} {sums : List ℤ} {sc key st lowest v : ℕ} (kept : 
     read_hit amounts e =
         let few = read_in in
         let here : get_or sums (amounts + j) (pos 0) ≡ get_or (cut (kept_amounts v) 8 sums) j (pos 0) =
-        ap (λ (a : ℕ). get_or sums (a + j) (pos 0)) e ∙ sym (getD_cut (kept_amounts v) 8 sums j (pos 0) few) in
+        ap (λ (a : ℕ). get_or sums (a + j) (pos 0)) e ∙ sym (get_or_cut (kept_amounts v) 8 sums j (pos 0) few) in
         here ∙ sym (kept.same ∙ (newest_first book sums key lowest v more ∙ rw found))
 
   -- and not found there

@@ -83,9 +83,9 @@ module _ {A : Type 0} where
   unfolding cut
   cut_cut p m o n l h = cut_take p m n (drop o l) h ∙ ap (take m) (drop-drop p o l)
 
-  pub getD_cut : (o n : ℕ) (l : List A) (j : ℕ) (d : A) → j < n → get_or (cut o n l) j d ≡ get_or l (o + j) d
+  pub get_or_cut : (o n : ℕ) (l : List A) (j : ℕ) (d : A) → j < n → get_or (cut o n l) j d ≡ get_or l (o + j) d
   unfolding cut
-  getD_cut o n l j d h = get_or-take n (drop o l) j d h ∙ get_or-drop o l j d
+  get_or_cut o n l j d h = get_or-take n (drop o l) j d h ∙ get_or-drop o l j d
 
   -- one store is a list of one laid in; a run of stores goes on behind what was laid in before
   pub set_put : (l : List A) (i : ℕ) (x : A) → i < length l → set l i x ≡ put l i (x ∷ [])
@@ -138,21 +138,21 @@ module _ {A : Type 0} where
   cut_whole s n e = cut_all n s (sym e)
 
   -- an element below what was laid in; above it; of it
-  pub getD_put_below : (l : List A) (at : ℕ) (s : List A) (i : ℕ) (d : A) → i < at → at ≤ length l → get_or (put l at s) i d ≡ get_or l i d
+  pub get_or_put_below : (l : List A) (at : ℕ) (s : List A) (i : ℕ) (d : A) → i < at → at ≤ length l → get_or (put l at s) i d ≡ get_or l i d
   unfolding put
-  getD_put_below l at s i d h fits =
+  get_or_put_below l at s i d h fits =
       get_or-append (take at l) (s ++ drop (at + length s) l) d i (rw (length-take-le at l fits) h) ∙ get_or-take at l i d h
 
-  pub getD_put_above : (l : List A) (at : ℕ) (s : List A) (i : ℕ) (d : A) → at + length s ≤ i → at + length s ≤ length l
+  pub get_or_put_above : (l : List A) (at : ℕ) (s : List A) (i : ℕ) (d : A) → at + length s ≤ i → at + length s ≤ length l
       → get_or (put l at s) i d ≡ get_or l i d
-  getD_put_above l at s i d h fits =
+  get_or_put_above l at s i d h fits =
       let e : i + 0 ≡ i = omega arith in
       let there : (k : List A) → get_or k i d ≡ get_or (drop i k) 0 d = λ k. ap (λ (m : ℕ). get_or k m d) (sym e) ∙ sym (get_or-drop i k 0 d) in
       there (put l at s) ∙ (ap (λ (k : List A). get_or k 0 d) (drop_put i l at s h fits) ∙ sym (there l))
 
-  pub getD_put_within : (l : List A) (at : ℕ) (s : List A) (i : ℕ) (d : A) → i < length s → at ≤ length l → get_or (put l at s) (at + i) d ≡ get_or s i d
+  pub get_or_put_within : (l : List A) (at : ℕ) (s : List A) (i : ℕ) (d : A) → i < length s → at ≤ length l → get_or (put l at s) (at + i) d ≡ get_or s i d
   unfolding put
-  getD_put_within l at s i d h fits =
+  get_or_put_within l at s i d h fits =
       let rest = drop (at + length s) l in
       let place : at + i ≡ length (take at l) + i = ap (λ (m : ℕ). m + i) (sym (length-take-le at l fits)) in
       ap (λ (m : ℕ). get_or (take at l ++ (s ++ rest)) m d) place

@@ -3,7 +3,7 @@ use Rattle.std.specs.Prelude.{ℕ, zero, suc, Bool, true, false, ◌⊎◌, ◌�
 use Rattle.std.proofs.lemmas.Bool.{false≢true}
 use mathlib.Core.List.{List, [], ◌∷◌, ◌++◌, map, head-eq_of_cons-eq, tail-eq_of_cons-eq, append_assoc}
 use Rattle.std.proofs.Common.{inl, inr, sym, ap, ◌∙◌}
-use Rattle.rules.specs.Lists.{any, all, insertAt}
+use Rattle.rules.specs.Lists.{any, all, insert_at}
 use Rattle.laws.specs.Tests.{split, or_left, or_right, or_neither}
 
 -- The element at which a test holds, with what stands before and behind it.
@@ -36,7 +36,7 @@ module _ {A : Type 0} where
   each_both P Q (x ∷ xs) g h = ((g.0, h.0), each_both P Q xs g.1 h.1)
 
   -- a newcomer joins a list
-  pub each_insert : (P : A → Type 0) (i : ℕ) (x : A) (xs : List A) → P x → Each P xs → Each P (insertAt i x xs)
+  pub each_insert : (P : A → Type 0) (i : ℕ) (x : A) (xs : List A) → P x → Each P xs → Each P (insert_at i x xs)
   each_insert P zero x xs p h = (p, h)
   each_insert P (suc i) x [] p h = (p, h)
   each_insert P (suc i) x (y ∷ xs) p h = (h.0, each_insert P i x xs p h.1)

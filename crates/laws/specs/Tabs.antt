@@ -6,7 +6,7 @@ use Rattle.std.proofs.Math.Path.{refl, ap, ap₂}
 use Rattle.std.proofs.Common.{◌∙◌, le_of_suc-le-suc, not-suc-le-zero, drop-cons}
 use native.Mathlib.Omega.{arith}
 use Rattle.std.proofs.Math.ListN.{get_or}
-use Rattle.rules.specs.Lists.{insertAt}
+use Rattle.rules.specs.Lists.{insert_at}
 use Rattle.laws.specs.Cuts.{cut}
 
 shift : (o j : ℕ) → o + suc j ≡ suc o + j
@@ -28,11 +28,11 @@ module _ {A : Type 0} where
   tab_same zero f g k = refl
   tab_same (suc n) f g k = ap₂ (λ (x : A) (l : List A). x ∷ l) (k 0 (omega arith)) (tab_same n (λ i. f (suc i)) (λ i. g (suc i)) (λ i h. k (suc i) (omega arith)))
 
-  pub getD_tab : (n : ℕ) (f : ℕ → A) (i : ℕ) (d : A) → i < n → get_or (tab n f) i d ≡ f i
+  pub get_or_tab : (n : ℕ) (f : ℕ → A) (i : ℕ) (d : A) → i < n → get_or (tab n f) i d ≡ f i
   unfolding tab
-  getD_tab zero f i d h = absurd (not-suc-le-zero h)
-  getD_tab (suc n) f zero d h = refl
-  getD_tab (suc n) f (suc i) d h = getD_tab n (λ j. f (suc j)) i d (le_of_suc-le-suc h)
+  get_or_tab zero f i d h = absurd (not-suc-le-zero h)
+  get_or_tab (suc n) f zero d h = refl
+  get_or_tab (suc n) f (suc i) d h = get_or_tab n (λ j. f (suc j)) i d (le_of_suc-le-suc h)
 
   -- one value more, in front; at the end
   pub tab_cons : (n : ℕ) (f : ℕ → A) → tab (suc n) f ≡ f 0 ∷ tab n (λ i. f (suc i))
@@ -71,7 +71,7 @@ module _ {A : Type 0} where
 
   -- a newcomer put in at a place
   pub tab_insert : (n i : ℕ) (x : A) (f g : ℕ → A) → i ≤ n → ((j : ℕ) → j < i → g j ≡ f j) → g i ≡ x
-      → ((j : ℕ) → i ≤ j → j < n → g (suc j) ≡ f j) → tab (suc n) g ≡ insertAt i x (tab n f)
+      → ((j : ℕ) → i ≤ j → j < n → g (suc j) ≡ f j) → tab (suc n) g ≡ insert_at i x (tab n f)
   unfolding tab
   tab_insert n zero x f g low before at behind =
       ap₂ (λ (y : A) (l : List A). y ∷ l) at (tab_same n (λ j. g (suc j)) f (λ j h. behind j (omega arith) h))

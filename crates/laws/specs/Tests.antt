@@ -2,7 +2,7 @@
 use Rattle.std.specs.Prelude.{ℕ, zero, suc, Bool, true, false, not, ◌&&◌, ◌||◌, List, [], ◌∷◌, ◌++◌, ◌↔◌, ◌⊎◌, ◌≡◌, refl, take, drop}
 use Rattle.std.proofs.Common.{true≢false, inl, inr, sym, ◌∙◌}
 use Rattle.std.proofs.lemmas.Bool.{false≢true}
-use Rattle.rules.specs.Lists.{any, all, insertAt}
+use Rattle.rules.specs.Lists.{any, all, insert_at}
 
 -- A case split on a test: in each arm the test's value is an equation, for `rw`.
 pub split {ℓ} : {C : Type ℓ} (b : Bool) → (b ≡ true → C) → (b ≡ false → C) → C
@@ -99,7 +99,7 @@ module _ {A : Type 0} where
   all_drop f (suc n) (x ∷ xs) h = all_drop f n xs (and_right (f x) (all f xs) h)
 
   -- a newcomer that passes a test joins a list that passes it
-  pub all_insert : (f : A → Bool) (i : ℕ) (x : A) (xs : List A) → f x ≡ true → all f xs ≡ true → all f (insertAt i x xs) ≡ true
+  pub all_insert : (f : A → Bool) (i : ℕ) (x : A) (xs : List A) → f x ≡ true → all f xs ≡ true → all f (insert_at i x xs) ≡ true
   all_insert f i x xs p h =
       all_append f (take i xs) (x ∷ drop i xs)
       ∙ and_both (all f (take i xs)) (f x && all f (drop i xs)) (all_take f i xs h)

@@ -2,7 +2,7 @@
 -- The element that a turn stores is given with an equation: a word is the element read, an amount is that element as its bits give it back.
 use Rattle.std.specs.Prelude.{ℕ, suc, ◌+◌, ◌-◌, ◌≤◌, ◌<◌, List, ◌∷◌, ◌≡◌, refl, length, get_or, set}
 use Rattle.std.proofs.Common.{sym, ap, ap₂, ◌∙◌, le_antisymm, arith, length-set}
-use Rattle.laws.specs.Cuts.{cut, put, length_cut, cut_snoc, cut_cons, cut_nothing, cut_whole, put_nothing, getD_put_below, getD_put_above, set_put_behind, set_put_front}
+use Rattle.laws.specs.Cuts.{cut, put, length_cut, cut_snoc, cut_cons, cut_nothing, cut_whole, put_nothing, get_or_put_below, get_or_put_above, set_put_behind, set_put_front}
 
 -- t is what became of the table l so far. The first j of the n elements are moved down.
 pub record Down {A : Type 0} (l : List A) (from to n : ℕ) (t : List A) (j : ℕ) : Type 0 where
@@ -54,7 +54,7 @@ module _ {A : Type 0} where
       → x ≡ get_or t (from + j) d → Down l from to n (set t (to + j) x) (j + 1)
   move_down_step {l} {t} {from} {to} {n} {j} {x} d kept fits more read =
       let so_far = length_cut from j l (omega arith) in
-      let unwritten = getD_put_above l to (cut from j l) (from + j) d (omega arith) (omega arith) in
+      let unwritten = get_or_put_above l to (cut from j l) (from + j) d (omega arith) (omega arith) in
       record {
         most = omega arith;
         moved = lay_more l t l from to j x d kept.moved (omega arith) (omega arith) (read ∙ (ap (λ (k : List A). get_or k (from + j) d) kept.moved ∙ unwritten));
@@ -72,7 +72,7 @@ module _ {A : Type 0} where
       → x ≡ get_or t (from + (j - 1)) d → Up l from to n (set t (to + (j - 1)) x) (j - 1)
   move_up_step {l} {t} {from} {to} {n} {j} {x} d kept fits some read =
       let one : suc (n - j) ≡ n - (j - 1) = omega arith in
-      let unwritten = getD_put_below l (to + j) (cut (from + j) (n - j) l) (from + (j - 1)) d (omega arith) (omega arith) in
+      let unwritten = get_or_put_below l (to + j) (cut (from + j) (n - j) l) (from + (j - 1)) d (omega arith) (omega arith) in
       record {
         most = omega arith;
         moved =

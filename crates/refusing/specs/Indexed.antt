@@ -8,8 +8,8 @@ use Rattle.rules.specs.Partitions.{Ballot}
 use Rattle.rules.specs.Events.{vote}
 use Rattle.rules.specs.Refusals.{is_for, waits_for, refusal, checks, vote_checks}
 use Rattle.laws.specs.Tests.{split, never}
-use Rattle.laws.specs.Cuts.{getD_cut}
-use Rattle.laws.specs.Tabs.{length_tab, getD_tab}
+use Rattle.laws.specs.Cuts.{get_or_cut}
+use Rattle.laws.specs.Tabs.{length_tab, get_or_tab}
 use Rattle.claims.specs.Refused.{none_applies}
 use Rattle.tables.specs.Layout.{waiting_row}
 use Rattle.tables.specs.Rows.{row_transaction, row_entry}
@@ -34,7 +34,7 @@ pub entry_identity : (book : List ℕ) (sums : List ℤ) (i : ℕ) → (entry_at
 unfolding entry_at row_entry row_transaction waiting_words
 entry_identity book sums i =
     let e : waiting_row i + 0 ≡ waiting_row i = omega arith in
-    rw e at (getD_cut (waiting_row i) 24 book 0 0 (omega arith))
+    rw e at (get_or_cut (waiting_row i) 24 book 0 0 (omega arith))
 
 -- The rules' test of who waits, on the identities of the table.
 pub waits_here : (x : ℕ) (book : List ℕ) (sums : List ℤ) → waits_for x (view book sums) ≡ any (λ y. eqb y x) (waiting_identities book)
@@ -57,7 +57,7 @@ row_of x book sums h =
     let low : i < n = let b = r.below in omega (arith, length_tab n (λ j. get_or book (waiting_row j) 0)) in
     record {
       below = low;
-      its = entry_identity book sums i ∙ (sym (getD_tab n (λ j. get_or book (waiting_row j) 0) i 0 low) ∙ r.stands);
+      its = entry_identity book sums i ∙ (sym (get_or_tab n (λ j. get_or book (waiting_row j) 0) i 0 low) ∙ r.stands);
     }
 
 -- A vote that isn't refused finds its entry waiting.

@@ -4,7 +4,7 @@ use Rattle.std.proofs.Common.{sym, ap, ◌∙◌, add-one, arith, eq-eqb, ne_eqb
 use Rattle.rules.specs.Lists.{any}
 use Rattle.rules.specs.Refusals.{waits_for}
 use Rattle.laws.specs.Tests.{split, or_left, or_right}
-use Rattle.laws.specs.Tabs.{tab, length_tab, getD_tab}
+use Rattle.laws.specs.Tabs.{tab, length_tab, get_or_tab}
 use Rattle.tables.specs.Layout.{waiting_row, waiting_at}
 use Rattle.tables.specs.View.{view}
 use Rattle.refusing.specs.Operands.{index_of, waiting_identities}
@@ -21,7 +21,7 @@ seeking_start x n g = record { most = omega arith; same = omega arith }
 here : (n : ℕ) (g : ℕ → ℕ) (i : ℕ) → i < n → drop i (tab n g) ≡ g i ∷ drop (i + 1) (tab n g)
 here n g i low =
     let within : i < length (tab n g) = rw (length_tab n g) low in
-    rw add-one (drop-cons (tab n g) i 0 within ∙ ap (λ (x : ℕ). x ∷ drop (suc i) (tab n g)) (getD_tab n g i 0 low))
+    rw add-one (drop-cons (tab n g) i 0 within ∙ ap (λ (x : ℕ). x ∷ drop (suc i) (tab n g)) (get_or_tab n g i 0 low))
 
 -- An index, by what stands in front.
 index_none : (x : ℕ) → index_of x [] ≡ 0

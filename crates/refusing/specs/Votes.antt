@@ -14,7 +14,7 @@ use Rattle.rules.specs.Soundness.{sound, different}
 use Rattle.rules.specs.Events.{vote}
 use Rattle.rules.specs.Refusals.{is_for, waits_for, refusal, checks, vote_checks}
 use Rattle.laws.specs.Tests.{split, never, and_left, and_right, or_left, or_right, or_first, or_second}
-use Rattle.laws.specs.Cuts.{getD_cut}
+use Rattle.laws.specs.Cuts.{get_or_cut}
 use Rattle.laws.specs.Tabs.{tab, map_tab}
 use Rattle.tables.specs.Layout.{waiting_row, own_at, waiting_at}
 use Rattle.tables.specs.Rows.{row_transaction, row_entry}
@@ -97,7 +97,7 @@ module _ (identity p : ℕ) (book : List ℕ) {row : ℕ} (found : row ≡ index
 module _ (book : List ℕ) (sums : List ℤ) where
   word : (i j : ℕ) → j < 24 → get_or (waiting_words book i) j 0 ≡ get_or book (waiting_row i + j) 0
   unfolding waiting_words
-  word i j low = getD_cut (waiting_row i) 24 book j 0 low
+  word i j low = get_or_cut (waiting_row i) 24 book j 0 low
 
   entry_set : (i : ℕ) → (entry_at book sums i).transaction.partitions ≡ get_or book (waiting_row i + 1) 0
   unfolding entry_at row_entry row_transaction

@@ -1,7 +1,7 @@
 -- 01, "What an event does": Delivery. What becomes of a newcomer, before the closing that follows.
 use Rattle.std.specs.Prelude.{ℕ, ◌+◌, ◌-◌, Bool, true, false, not, cond, ◌&&◌, ◌||◌, List, leb, length, take}
 use Rattle.std.proofs.Math.Option.{Option, none, some}
-use Rattle.rules.specs.Lists.{any, insertAt}
+use Rattle.rules.specs.Lists.{any, insert_at}
 use Rattle.rules.specs.Partitions.{Ballot, aye, nay, Heard}
 use Rattle.rules.specs.Keys.{meet}
 use Rattle.rules.specs.Ledger.{Transaction, Entry, Commit, Clock, Books, keys_of, is_local}
@@ -59,7 +59,7 @@ fate c t waiting b =
 -- The waiting list after it.
 unfoldable pub joined : Fate → Entry → List Entry → List Entry
 joined (abort reason) e waiting = waiting
-joined (join i) e waiting = insertAt i e waiting
+joined (join i) e waiting = insert_at i e waiting
 
 -- "For a global one, the answer also tells the host which vote to send."
 unfoldable pub vote_to_send : Bool → Fate → Option Ballot

@@ -11,8 +11,8 @@ module _ {A : Type 0} where
   all f [] = true
   all f (x ∷ xs) = f x && all f xs
 
-  abbrev pub insertAt : ℕ → A → List A → List A
-  insertAt i x xs = take i xs ++ x ∷ drop i xs
+  abbrev pub insert_at : ℕ → A → List A → List A
+  insert_at i x xs = take i xs ++ x ∷ drop i xs
 
   abbrev pub is_some : Option A → Bool
   is_some none = false

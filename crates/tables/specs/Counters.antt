@@ -4,7 +4,7 @@ use mathlib.Core.List.{List, [], ◌∷◌}
 use Rattle.std.proofs.Math.Path.{ap}
 use Rattle.std.proofs.Common.{◌∙◌, arith}
 use Rattle.rules.specs.Sizes.{most_kept}
-use Rattle.laws.specs.Cuts.{cut, put, length_put, cut_put_above, getD_put_below, getD_put_within}
+use Rattle.laws.specs.Cuts.{cut, put, length_put, cut_put_above, get_or_put_below, get_or_put_within}
 use Rattle.laws.specs.Tabs.{tab_same}
 use Rattle.tables.specs.Layout.{book_words, waiting_row, kept_row, waiting_amounts, kept_amounts}
 use Rattle.tables.specs.Rows.{row_entry, row_commit}
@@ -47,11 +47,11 @@ module _ (book : List ℕ) (sums : List ℤ) (sc dc k n : ℕ) (long : book_word
 
   counter_below : (j : ℕ) → j < 2 → get_or (with_counters book sc dc k n) j 0 ≡ get_or book j 0
   unfolding with_counters
-  counter_below j low = getD_put_below book 2 (sc ∷ dc ∷ k ∷ n ∷ []) j 0 low (omega arith)
+  counter_below j low = get_or_put_below book 2 (sc ∷ dc ∷ k ∷ n ∷ []) j 0 low (omega arith)
 
   counter_at : (j : ℕ) → j < 4 → get_or (with_counters book sc dc k n) (2 + j) 0 ≡ get_or (sc ∷ dc ∷ k ∷ n ∷ []) j 0
   unfolding with_counters
-  counter_at j low = getD_put_within book 2 (sc ∷ dc ∷ k ∷ n ∷ []) j 0 low (omega arith)
+  counter_at j low = get_or_put_within book 2 (sc ∷ dc ∷ k ∷ n ∷ []) j 0 low (omega arith)
 
   -- the state that the tables then hold
   pub counters_view : view (with_counters book sc dc k n) sums

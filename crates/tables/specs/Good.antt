@@ -8,7 +8,7 @@ use Rattle.rules.specs.Keys.{bad_key, too_many, bad_keys, ascending, good_set}
 use Rattle.rules.specs.Ledger.{keys_of}
 use Rattle.rules.specs.Soundness.{good_commit, good_entry}
 use Rattle.laws.specs.Tests.{and_left, and_right, or_left, or_right}
-use Rattle.laws.specs.Cuts.{cut, getD_cut}
+use Rattle.laws.specs.Cuts.{cut, get_or_cut}
 use Rattle.laws.specs.Tabs.{tab, length_tab, tab_same, tab_cut}
 use Rattle.claims.specs.SoundParts.{GoodEntry, entry_facts}
 use Rattle.tables.specs.Rows.{row_reads, row_keys, row_writes, row_transaction, row_entry, row_commit, row_writes_keys}
@@ -118,7 +118,7 @@ pub reads_part : (book : List ℕ) (o : ℕ) → o + 24 ≤ length book → get_
 unfolding row_reads
 reads_part book o fits few =
     tab_same (get_or (cut o 24 book) 6 0) (λ j. get_or (cut o 24 book) (8 + j) 0) (λ j. get_or book (o + 8 + j) 0)
-    (λ j low. getD_cut o 24 book (8 + j) 0 (omega arith) ∙ ap (λ (k : ℕ). get_or book k 0) (regroup o 8 j))
+    (λ j low. get_or_cut o 24 book (8 + j) 0 (omega arith) ∙ ap (λ (k : ℕ). get_or book k 0) (regroup o 8 j))
     ∙ tab_cut (o + 8) (get_or (cut o 24 book) 6 0) book 0 (omega arith)
 
 pub keys_part : (book : List ℕ) (o : ℕ) → o + 24 ≤ length book → get_or (cut o 24 book) 7 0 ≤ most_keys
@@ -126,5 +126,5 @@ pub keys_part : (book : List ℕ) (o : ℕ) → o + 24 ≤ length book → get_o
 unfolding row_keys
 keys_part book o fits few =
     tab_same (get_or (cut o 24 book) 7 0) (λ j. get_or (cut o 24 book) (16 + j) 0) (λ j. get_or book (o + 16 + j) 0)
-    (λ j low. getD_cut o 24 book (16 + j) 0 (omega arith) ∙ ap (λ (k : ℕ). get_or book k 0) (regroup o 16 j))
+    (λ j low. get_or_cut o 24 book (16 + j) 0 (omega arith) ∙ ap (λ (k : ℕ). get_or book k 0) (regroup o 16 j))
     ∙ tab_cut (o + 16) (get_or (cut o 24 book) 7 0) book 0 (omega arith)

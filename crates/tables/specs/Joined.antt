@@ -3,9 +3,9 @@
 use Rattle.std.specs.Prelude.{ℕ, suc, ◌+◌, ◌*◌, ◌-◌, ◌≤◌, ◌<◌, min, List, ◌≡◌, refl, ℤ, length, get_or}
 use Rattle.std.proofs.Common.{sym, ap, ◌∙◌, arith}
 use Rattle.std.proofs.Math.Path.{ap₂}
-use Rattle.rules.specs.Lists.{insertAt}
+use Rattle.rules.specs.Lists.{insert_at}
 use Rattle.rules.specs.Sizes.{most_kept}
-use Rattle.laws.specs.Cuts.{cut, put, length_cut, length_put, cut_put_below, cut_put_above, cut_put_within, cut_cut, getD_cut}
+use Rattle.laws.specs.Cuts.{cut, put, length_cut, length_put, cut_put_below, cut_put_above, cut_put_within, cut_cut, get_or_cut}
 use Rattle.laws.specs.Tabs.{tab_insert, tab_same}
 use Rattle.tables.specs.Layout.{book_words, sums_words, waiting_row, waiting_amounts, kept_row, kept_amounts}
 use Rattle.tables.specs.Rows.{row_entry, row_commit}
@@ -113,7 +113,7 @@ module _ (book : List ℕ) (sums : List ℤ) (n i : ℕ) (first reads keys : Lis
 pub joined_waiting : (book : List ℕ) (sums : List ℤ) (n i identity set st rt : ℕ) (reads keys : List ℕ) (amounts : List ℤ)
     → book_words ≤ length book → sums_words ≤ length sums → n < 32 → i ≤ n → length reads ≤ 8 → length keys ≤ 8 → length amounts ≡ length keys
     → waiting_view (suc n) (joined_book book n i (first_words identity set st rt reads keys) reads keys) (joined_sums sums n i amounts)
-    ≡ insertAt i (newcomer identity set st rt reads keys amounts) (waiting_view n book sums)
+    ≡ insert_at i (newcomer identity set st rt reads keys amounts) (waiting_view n book sums)
 unfolding waiting_view entry_at waiting_words joined_book joined_sums
 joined_waiting book sums n i identity set st rt reads keys amounts long long_sums room low few_reads few_keys same =
     let first = first_words identity set st rt reads keys in
@@ -147,7 +147,7 @@ pub joined_counter : (book : List ℕ) (sums : List ℤ) (n i : ℕ) (first read
     → length amounts ≡ length keys → (j : ℕ) → j < 6 → get_or (joined_book book n i first reads keys) j 0 ≡ get_or book j 0
 joined_counter book sums n i first reads keys amounts long long_sums room low eight few_reads few_keys same j below =
     let e : 0 + j ≡ j = omega arith in
-    rw e at (sym (getD_cut 0 6 (joined_book book n i first reads keys) j 0 below)
+    rw e at (sym (get_or_cut 0 6 (joined_book book n i first reads keys) j 0 below)
     ∙ (ap (λ (l : List ℕ). get_or l j 0)
     (joined_before book sums n i first reads keys amounts long long_sums room low eight few_reads few_keys same 0 6 (omega arith))
-    ∙ getD_cut 0 6 book j 0 below))
+    ∙ get_or_cut 0 6 book j 0 below))

@@ -4,7 +4,7 @@ use Rattle.std.proofs.Math.Path.{refl}
 use Rattle.std.proofs.Common.{sym, ap, ◌∙◌, arith}
 use Rattle.rules.specs.Partitions.{none_heard}
 use Rattle.rules.specs.Ledger.{Write, Entry}
-use Rattle.laws.specs.Cuts.{cut, put, length_put, cut_put_below, cut_put_above, cut_put_same, getD_cut}
+use Rattle.laws.specs.Cuts.{cut, put, length_put, cut_put_below, cut_put_above, cut_put_same, get_or_cut}
 use Rattle.laws.specs.Tabs.{tab, tab_same, tab_list}
 use Rattle.tables.specs.Rows.{row_reads, row_writes, row_transaction, row_entry}
 
@@ -80,24 +80,24 @@ module _ (book : List ℕ) (o : ℕ) (first reads keys : List ℕ) (h : RowFits 
   word_first : (j : ℕ) → j < 8 → get_or (cut o 24 (with_row book o first reads keys)) j 0 ≡ get_or first j 0
   word_first j low =
       let fits = h.fits in
-      getD_cut o 24 (with_row book o first reads keys) j 0 (omega arith)
-      ∙ (sym (getD_cut o 8 (with_row book o first reads keys) j 0 low) ∙ ap (λ (l : List ℕ). get_or l j 0) row_first)
+      get_or_cut o 24 (with_row book o first reads keys) j 0 (omega arith)
+      ∙ (sym (get_or_cut o 8 (with_row book o first reads keys) j 0 low) ∙ ap (λ (l : List ℕ). get_or l j 0) row_first)
 
   word_read : (j : ℕ) → j < length reads → get_or (cut o 24 (with_row book o first reads keys)) (8 + j) 0 ≡ get_or reads j 0
   word_read j low =
       let fits = h.fits in let r = h.few_reads in
       let e : o + (8 + j) ≡ o + 8 + j = omega arith in
-      getD_cut o 24 (with_row book o first reads keys) (8 + j) 0 (omega arith)
+      get_or_cut o 24 (with_row book o first reads keys) (8 + j) 0 (omega arith)
       ∙ (ap (λ (k : ℕ). get_or (with_row book o first reads keys) k 0) e
-      ∙ (sym (getD_cut (o + 8) (length reads) (with_row book o first reads keys) j 0 low) ∙ ap (λ (l : List ℕ). get_or l j 0) row_second))
+      ∙ (sym (get_or_cut (o + 8) (length reads) (with_row book o first reads keys) j 0 low) ∙ ap (λ (l : List ℕ). get_or l j 0) row_second))
 
   word_key : (j : ℕ) → j < length keys → get_or (cut o 24 (with_row book o first reads keys)) (16 + j) 0 ≡ get_or keys j 0
   word_key j low =
       let fits = h.fits in let k = h.few_keys in
       let e : o + (16 + j) ≡ o + 16 + j = omega arith in
-      getD_cut o 24 (with_row book o first reads keys) (16 + j) 0 (omega arith)
+      get_or_cut o 24 (with_row book o first reads keys) (16 + j) 0 (omega arith)
       ∙ (ap (λ (k : ℕ). get_or (with_row book o first reads keys) k 0) e
-      ∙ (sym (getD_cut (o + 16) (length keys) (with_row book o first reads keys) j 0 low) ∙ ap (λ (l : List ℕ). get_or l j 0) row_third))
+      ∙ (sym (get_or_cut (o + 16) (length keys) (with_row book o first reads keys) j 0 low) ∙ ap (λ (l : List ℕ). get_or l j 0) row_third))
 
 -- What a row says follows from its words.
 reads_from : (w reads : List ℕ) → get_or w 6 0 ≡ length reads → ((j : ℕ) → j < length reads → get_or w (8 + j) 0 ≡ get_or reads j 0) → row_reads w ≡ reads
@@ -117,8 +117,8 @@ writes_from w a keys amounts n k v =
 amount_at : (sums : List ℤ) (a : ℕ) (amounts : List ℤ) (keys : List ℕ) → length amounts ≡ length keys → length keys ≤ 8 → a + 8 ≤ length sums
     → (j : ℕ) → j < length keys → get_or (cut a 8 (put sums a amounts)) j (pos 0) ≡ get_or amounts j (pos 0)
 amount_at sums a amounts keys same few fits j low =
-    getD_cut a 8 (put sums a amounts) j (pos 0) (omega arith)
-    ∙ (sym (getD_cut a (length amounts) (put sums a amounts) j (pos 0) (omega arith))
+    get_or_cut a 8 (put sums a amounts) j (pos 0) (omega arith)
+    ∙ (sym (get_or_cut a (length amounts) (put sums a amounts) j (pos 0) (omega arith))
     ∙ ap (λ (l : List ℤ). get_or l j (pos 0)) (cut_put_same (length amounts) sums a amounts refl (omega arith)))
 
 -- The newcomer's entry.

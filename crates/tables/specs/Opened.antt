@@ -4,7 +4,7 @@ use Rattle.std.proofs.Common.{ap, ◌∙◌, arith}
 use Rattle.std.proofs.lemmas.List.{length-replicate}
 use Rattle.rules.specs.Sizes.{keys}
 use Rattle.rules.specs.Ledger.{opening}
-use Rattle.laws.specs.Cuts.{cut, put, length_put, cut_put_within, getD_put_within}
+use Rattle.laws.specs.Cuts.{cut, put, length_put, cut_put_within, get_or_put_within}
 use Rattle.tables.specs.Layout.{book_words, sums_words}
 use Rattle.tables.specs.View.{waiting_view, waiting_none, kept_view, values_view, books_view, clock_view, view}
 use Rattle.laws.specs.Tabs.{tab}
@@ -50,7 +50,7 @@ module _ (book : List ℕ) (sums : List ℤ) (partitions own k : ℕ) (long : bo
   opened_counter : (j : ℕ) → j < 6 → get_or (opened_book book partitions own k) (0 + j) 0 ≡ get_or (opened_words partitions own k) j 0
   unfolding opened_book
   opened_counter j low =
-      let l = length_opened_words partitions own k in getD_put_within book 0 (opened_words partitions own k) j 0 (omega arith) (omega arith)
+      let l = length_opened_words partitions own k in get_or_put_within book 0 (opened_words partitions own k) j 0 (omega arith) (omega arith)
 
   opened_values : values_view (opened_sums sums) ≡ replicate keys (pos 0)
   unfolding values_view opened_sums blank

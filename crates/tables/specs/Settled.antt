@@ -9,7 +9,7 @@ use Rattle.rules.specs.Ledger.{Clock}
 use Rattle.rules.specs.Closing.{ready, commits, close}
 use Rattle.rules.specs.Events.{Answer, closing}
 use Rattle.laws.specs.Tests.{split}
-use Rattle.laws.specs.Cuts.{cut, put, getD_cut, cut_put_below}
+use Rattle.laws.specs.Cuts.{cut, put, get_or_cut, cut_put_below}
 use Rattle.tables.specs.Layout.{book_words, waiting_row, kept_row}
 use Rattle.tables.specs.View.{waiting_view, books_view, view}
 use Rattle.tables.specs.TakenOff.{off_book}
@@ -62,8 +62,8 @@ module _ (c : Clock) (d : Desk) (h : Ready c d) where
   unfolding closed_desk
   counter_kept j low =
       let e : 0 + j ≡ j = omega arith in
-      rw e at (sym (getD_cut 0 6 (close_desk c d.waiting d).book j 0 low)
-      ∙ (ap (λ (l : List ℕ). get_or l j 0) (close_counters c d.waiting d refl h.fit) ∙ getD_cut 0 6 d.book j 0 low))
+      rw e at (sym (get_or_cut 0 6 (close_desk c d.waiting d).book j 0 low)
+      ∙ (ap (λ (l : List ℕ). get_or l j 0) (close_counters c d.waiting d refl h.fit) ∙ get_or_cut 0 6 d.book j 0 low))
 
   closed_long : book_words ≤ length (closed_desk c d).book
   closed_long = rw closes.same_length h.fit.long

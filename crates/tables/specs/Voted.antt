@@ -14,7 +14,7 @@ use Rattle.rules.specs.Ledger.{Entry}
 use Rattle.rules.specs.Soundness.{different, identities}
 use Rattle.rules.specs.Events.{with_vote}
 use Rattle.laws.specs.Tests.{split, and_left, and_right, or_left, or_right}
-use Rattle.laws.specs.Cuts.{cut, set_put, length_cut, getD_cut, cut_put_below, cut_put_above}
+use Rattle.laws.specs.Cuts.{cut, set_put, length_cut, get_or_cut, cut_put_below, cut_put_above}
 use Rattle.laws.specs.Tabs.{tab, tab_as, tab_same, map_tab}
 use Rattle.claims.specs.Soundness.{hearing, with_vote_heard, with_vote_other}
 use Rattle.tables.specs.Layout.{book_words, waiting_row, waiting_amounts}
@@ -159,7 +159,7 @@ module _ (book : List ℕ) (sums : List ℤ) (i p : ℕ) (agrees : Bool) (long :
       let k = word_high agrees in
       let w = cut (waiting_row i) 24 book in
       let a = cut (waiting_amounts i) 8 sums in
-      let before = ap (with_partition p) (sym (getD_cut (waiting_row i) 24 book (word agrees) 0 (omega arith))) in
+      let before = ap (with_partition p) (sym (get_or_cut (waiting_row i) 24 book (word agrees) 0 (omega arith))) in
       ap (λ (l : List ℕ). row_entry (cut (waiting_row i) 24 l) a) (one_store book i p agrees)
       ∙ (ap (λ (r : List ℕ). row_entry r a)
       (cut_set (waiting_row i) 24 (word agrees) (waiting_row i + word agrees) (stored book i p agrees) book refl (omega arith)
