@@ -1,4 +1,4 @@
--- src/lib.rt:50:5
+-- Both tables cleared, then the sizes stored. Assumes nothing.
 use Rattle.opening.specs.Clearing.{stored_sizes}
 use Rattle.tables.specs.Opened.{opened_sums}
 use Rattle.opening.proofs.open_tables.Goals as goal

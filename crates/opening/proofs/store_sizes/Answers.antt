@@ -1,4 +1,4 @@
--- src/lib.rt:39:5
+-- Three stores into a table that is long enough. Assumes nothing.
 use lib.ListN.{length-set}
 use native.Mathlib.Omega.{arith}
 use Rattle.opening.proofs.store_sizes.Goals as goal
