@@ -49,11 +49,11 @@ taken t s q h =
     let few = not_met.1.0 in
     let good = not_met.1.1.0 in
     let identity = not_met.1.1.1.0 in
-    let List_open = leb-false most_waiting (length s.waiting) not_met.1.1.1.1.1.1.0 in
+    let list_open = leb-false most_waiting (length s.waiting) not_met.1.1.1.1.1.1.0 in
     let not_last = eqb-false s.clock.dc most_dc not_met.1.1.1.1.1.1.1.0 in
     record {
       dc_open = omega (arith, h.dc_fits);
-      room = record { not_full = List_open; one_more = omega (arith, h.sum_fits) };
+      room = record { not_full = list_open; one_more = omega (arith, h.sum_fits) };
       new = or_right (eqb t.identity 0) (waits_for t.identity s) identity;
       good =
           entry_test s.clock.partitions s.clock.own (s.clock.dc + 1) (entered (ticked s.clock) t none_heard)

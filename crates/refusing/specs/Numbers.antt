@@ -19,7 +19,7 @@ unfolding first_of
 first_numbered [] h z = refl
 first_numbered (c ∷ cs) h z =
     split c.holds
-    (λ q. let Some_number = ltb-true 0 c.number (and_left (numbered c) (all numbered cs) h) in
+    (λ q. let some_number = ltb-true 0 c.number (and_left (numbered c) (all numbered cs) h) in
     let e : c.number ≡ 0 = rw q at z in absurd (omega arith))
     (λ q. rw q (first_numbered cs (and_right (numbered c) (all numbered cs) h) (rw q at z)))
 
