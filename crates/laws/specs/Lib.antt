@@ -7,3 +7,4 @@ pub mod Bits
 pub mod Partitions
 pub mod Cuts
 pub mod Tabs
+pub mod Options
