@@ -1,7 +1,7 @@
--- Ascending lists as a walk from the front sees them, and as parts of a list: what is left, and what is taken, is ascending too.
-use Rattle.std.specs.Prelude.{ℕ, zero, suc, ◌+◌, ◌≤◌, ◌<◌, true, false, List, [], ◌∷◌, ◌≡◌, refl, ltb, length, take, drop, get_or}
-use borrow.Author.Tests.{lt-ltb, le-ltb}
-use Rattle.std.proofs.Common.{add-one, arith, drop-cons}
+-- Ascending lists: what is left of one, and what is taken, is ascending too; and what a walk over neighbours answers.
+use Rattle.std.specs.Prelude.{ℕ, zero, suc, ◌+◌, ◌<◌, Bool, true, false, ◌&&◌, List, [], ◌∷◌, ◌≡◌, refl, ltb, length, take, drop, get_or}
+use Rattle.std.proofs.Common.{arith, sym}
+use Rattle.std.specs.List.{IsAllAdjacentAnswer}
 use Rattle.rules.specs.Keys.{above, ascending}
 use Rattle.laws.specs.Tests.{and_left, and_right, and_both}
 use Rattle.laws.specs.Members.{ascending_rest}
@@ -27,26 +27,29 @@ ascending_take zero xs h = refl
 ascending_take (suc n) [] h = refl
 ascending_take (suc n) (x ∷ xs) h = above_take n x xs h
 
--- What stands from i on: the key at i, and what stands after it.
-pub from_here : (xs : List ℕ) (i : ℕ) → i < length xs → drop i xs ≡ get_or xs i 0 ∷ drop (i + 1) xs
-from_here xs i h = rw add-one (drop-cons xs i 0 h)
+behind : (k : ℕ) → suc k + 1 ≡ suc (k + 1)
+behind k = omega arith
 
--- A walk: at i the key is below the next, or not; or there is no next.
-module _ (xs : List ℕ) (i : ℕ) where
-  pub ascending_step : i + 1 < length xs → get_or xs i 0 < get_or xs (i + 1) 0 → ascending (drop i xs) ≡ ascending (drop (i + 1) xs)
-  unfolding ascending above
-  ascending_step l h =
-      rw (from_here xs i (omega arith), from_here xs (i + 1) l, lt-ltb (get_or xs i 0) (get_or xs (i + 1) 0) h)
+and_false : (b : Bool) → (b && false) ≡ false
+and_false true = refl
+and_false false = refl
 
-  pub ascending_fails : i + 1 < length xs → get_or xs (i + 1) 0 ≤ get_or xs i 0 → ascending (drop i xs) ≡ false
-  unfolding ascending above
-  ascending_fails l h =
-      rw (from_here xs i (omega arith), from_here xs (i + 1) l, le-ltb (get_or xs i 0) (get_or xs (i + 1) 0) h)
+-- What the library's walk over neighbours answers.
+sorted_above : (x : ℕ) (xs : List ℕ) → ((k : ℕ) (d : ℕ) → k + 1 < length (x ∷ xs) → true ≡ ltb (get_or (x ∷ xs) k d) (get_or (x ∷ xs) (k + 1) d)) → true ≡ above x xs
+unfolding above
+sorted_above x [] h = refl
+sorted_above x (y ∷ ys) h =
+    sym (and_both (ltb x y) (above y ys) (sym (h 0 0 (omega arith))) (sym (sorted_above y ys (λ k d l. rw (behind k) at (h (suc k) d (omega arith))))))
 
-pub ascending_short : (i : ℕ) (xs : List ℕ) → length xs ≤ i + 1 → ascending (drop i xs) ≡ true
-unfolding ascending above
-ascending_short zero [] l = refl
-ascending_short zero (x ∷ []) l = refl
-ascending_short zero (x ∷ y ∷ xs) l = absurd (omega arith)
-ascending_short (suc i) [] l = refl
-ascending_short (suc i) (x ∷ xs) l = ascending_short i xs (omega arith)
+unsorted_above : (x : ℕ) (xs : List ℕ) (k : ℕ) → k + 1 < length (x ∷ xs) → ((d : ℕ) → false ≡ ltb (get_or (x ∷ xs) k d) (get_or (x ∷ xs) (k + 1) d)) → false ≡ above x xs
+unfolding above
+unsorted_above x [] k l h = absurd (omega arith)
+unsorted_above x (y ∷ ys) zero l h = rw (← h 0)
+unsorted_above x (y ∷ ys) (suc k) l h = rw (← unsorted_above y ys k (omega arith) (λ d. rw (behind k) at (h d))) (sym (and_false (ltb x y)))
+
+pub sorted_ascends : (xs : List ℕ) (answer : Bool) → IsAllAdjacentAnswer (λ x y b. b ≡ ltb x y) xs answer → answer ≡ ascending xs
+unfolding ascending
+sorted_ascends [] true h = refl
+sorted_ascends [] false h = absurd (omega (arith, h.1))
+sorted_ascends (x ∷ xs) true h = sorted_above x xs h
+sorted_ascends (x ∷ xs) false h = unsorted_above x xs h.0 h.1 h.2

@@ -1,5 +1,5 @@
 -- Laws of ascending lists of keys as the loops walk them, and the answers that the functions give.
-pub mod Answers
 pub mod Ascending
 pub mod Limits
 pub mod Merge
+pub mod Answers

@@ -1,38 +1,20 @@
--- A list of keys within its limits, as a walk from the front finds out: a key over 1,023 at some place, or none at any and the order alone left to ask.
-use Rattle.std.specs.Prelude.{ℕ, ◌+◌, ◌≤◌, ◌<◌, Bool, true, false, not, List, ◌≡◌, length, drop, get_or}
-use Rattle.std.proofs.Common.{◌∙◌, drop_of_length-le}
-use borrow.Author.Tests.{le-leb, lt-leb, not-true, not-false}
+-- A list of keys within its limits: a key over 1,023 at some place, or none at any and the order alone left to ask.
+use Rattle.std.specs.Prelude.{ℕ, Bool, true, false, not, List, ◌≡◌}
+use Rattle.std.proofs.Common.{sym, ◌∙◌}
+use borrow.Author.Tests.{not-true, not-false}
 use Rattle.rules.specs.Lists.{any}
 use Rattle.rules.specs.Keys.{ascending, bad_key, bad_keys, too_many, good_set}
-use Rattle.rules.specs.Sizes.{keys}
 use Rattle.laws.specs.Tests.{and_right, or_right}
-use Rattle.keys.specs.Ascending.{from_here}
 
--- Some key from i on is over 1,023.
-unfoldable pub bad_from : ℕ → List ℕ → Bool
-bad_from i xs = any bad_key (drop i xs)
+-- A key over 1,023 is found, or none is and the order decides.
+module _ (xs : List ℕ) {found : Bool} (says : found ≡ any bad_key xs) where
+  pub some_bad : found ≡ true → found ≡ bad_keys xs
+  unfolding bad_keys
+  some_bad h = h ∙ rw (sym says ∙ h)
 
-module _ (xs : List ℕ) (i : ℕ) where
-  pub bad_here : i < length xs → keys ≤ get_or xs i 0 → bad_from i xs ≡ true
-  unfolding bad_from
-  bad_here l h = rw (from_here xs i l, le-leb keys (get_or xs i 0) h)
-
-  pub bad_later : i < length xs → get_or xs i 0 < keys → bad_from i xs ≡ bad_from (i + 1) xs
-  unfolding bad_from
-  bad_later l h = rw (from_here xs i l, lt-leb keys (get_or xs i 0) h)
-
-pub bad_nowhere : (i : ℕ) (xs : List ℕ) → length xs ≤ i → bad_from i xs ≡ false
-unfolding bad_from
-bad_nowhere i xs l = rw (drop_of_length-le xs l)
-
--- What the walk finds is what is asked of the whole list.
-pub bad_found : (i : ℕ) (xs : List ℕ) → bad_from 0 xs ≡ bad_from i xs → bad_from i xs ≡ true → bad_keys xs ≡ true
-unfolding bad_keys bad_from
-bad_found i xs same here = rw (same ∙ here)
-
-pub bad_order : (i : ℕ) (xs : List ℕ) → bad_from 0 xs ≡ bad_from i xs → bad_from i xs ≡ false → not (ascending xs) ≡ bad_keys xs
-unfolding bad_keys bad_from
-bad_order i xs same nowhere = rw (same ∙ nowhere)
+  pub none_bad : {ascends : Bool} → found ≡ false → ascends ≡ ascending xs → not ascends ≡ bad_keys xs
+  unfolding bad_keys
+  none_bad {ascends} h e = rw (sym says ∙ h, e)
 
 -- A list within its limits is ascending: what a merge asks of it.
 pub not_bad_ascending : (xs : List ℕ) → bad_keys xs ≡ false → ascending xs ≡ true

@@ -1,15 +1,18 @@
--- Two ascending lists walked side by side: what they share from two places on, by what they share one place later.
-use Rattle.std.specs.Prelude.{ℕ, ◌+◌, ◌≤◌, ◌<◌, true, false, List, [], ◌∷◌, ◌≡◌, refl, ltb, length, drop}
+-- Two ascending lists walked side by side: what they share, by what is shared behind the smaller of their first keys.
+use Rattle.std.specs.Prelude.{ℕ, ◌<◌, true, false, List, [], ◌∷◌, ◌≡◌, refl, ltb, length}
+use Rattle.std.specs.Prelude.{Some, None, is_some}
+use Rattle.std.specs.Ordering.{nat_cmp}
+use Rattle.std.specs.declared.cmp.Ordering.{Ordering}
+use Rattle.std.specs.declared.cmp.Ordering.TheVariants.{Less, Equal, Greater}
+use Rattle.std.proofs.lemmas.Cmp.{ranked}
 use Rattle.std.proofs.Math.Option.{Option, none, some}
 use borrow.Author.Tests.{ltb-true, lt-ltb, eq-eqb, ne_eqb}
 use native.Mathlib.Omega.{arith}
-use Rattle.std.proofs.Math.ListN.{get_or}
-use Rattle.std.proofs.Common.{drop_of_length-le}
-use Rattle.rules.specs.Lists.{member}
-use Rattle.rules.specs.Keys.{above, ascending, shared}
+use Rattle.rules.specs.Lists.{member, is_some as some_found}
+use Rattle.rules.specs.Keys.{above, ascending, shared, meet}
 use Rattle.laws.specs.Tests.{split, and_left, and_right, and_both}
 use Rattle.laws.specs.Members.{member_exactly, above_larger}
-use Rattle.keys.specs.Ascending.{from_here, ascending_drop}
+use Rattle.laws.specs.Options.{given}
 
 -- A key that a list stands above isn't in it: it is passed, in front of either list.
 member_above : (x : ℕ) (ys : List ℕ) → above x ys ≡ true → member x ys ≡ false
@@ -37,45 +40,56 @@ pass_other y (x ∷ xs) ys h =
     let l : y < x = ltb-true y x (and_left (ltb y x) (above x xs) h) in
     rw (ne_eqb x y (λ e. omega arith), pass_other y xs ys (above_lower y x xs l (and_right (ltb y x) (above x xs) h)))
 
+-- A smaller key stands below all of an ascending list.
+above_first : (x y : ℕ) (ys : List ℕ) → x < y → above y ys ≡ true → above x (y ∷ ys) ≡ true
+unfolding above
+above_first x y ys l a = and_both (ltb x y) (above y ys) (lt-ltb x y l) a
+
 shared_nothing : (xs : List ℕ) → shared xs [] ≡ none
 unfolding shared
 shared_nothing [] = refl
 shared_nothing (x ∷ xs) = shared_nothing xs
 
--- A smaller key stands below all of an ascending list from j on.
-above_from : (x : ℕ) (ys : List ℕ) (j : ℕ) → j < length ys → ascending ys ≡ true → x < get_or ys j 0 → above x (drop j ys) ≡ true
-unfolding above ascending
-above_from x ys j l a h =
-    let rest : ascending (get_or ys j 0 ∷ drop (j + 1) ys) ≡ true = rw (from_here ys j l) at (ascending_drop j ys a) in
-    rw (from_here ys j l, lt-ltb x (get_or ys j 0) h) rest
+is_given : (found : Option ℕ) → is_some (given found) ≡ some_found found
+is_given none = refl
+is_given (some x) = refl
 
--- The smallest key that two lists share from two places on.
-unfoldable pub shared_from : ℕ → ℕ → List ℕ → List ℕ → Option ℕ
-shared_from i j xs ys = shared (drop i xs) (drop j ys)
+-- Nothing is shared with an empty list.
+pub shared_end : (xs ys : List ℕ) → length xs ≡ 0 → None ≡ given (shared xs ys)
+unfolding shared
+shared_end [] ys e = refl
+shared_end (x ∷ xs) ys e = absurd (omega arith)
 
--- The three ways on, with a key of each list in hand.
-module _ (xs ys : List ℕ) (i j : ℕ) (one : i < length xs) (other : j < length ys) where
-  pub shared_met : get_or xs i 0 ≡ get_or ys j 0 → shared_from i j xs ys ≡ some (get_or xs i 0)
-  unfolding shared_from shared
-  shared_met e = rw (from_here xs i one, from_here ys j other, eq-eqb (get_or xs i 0) (get_or ys j 0) e)
+pub shared_end_other : (xs ys : List ℕ) → length ys ≡ 0 → None ≡ given (shared xs ys)
+shared_end_other xs [] e = rw (shared_nothing xs)
+shared_end_other xs (y ∷ ys) e = absurd (omega arith)
 
-  pub shared_one : ascending ys ≡ true → get_or xs i 0 < get_or ys j 0
-      → shared_from i j xs ys ≡ shared_from (i + 1) j xs ys
-  unfolding shared_from
-  shared_one a h = rw (from_here xs i one) (pass_one (get_or xs i 0) (drop (i + 1) xs) (drop j ys) (above_from (get_or xs i 0) ys j other a h))
+-- The three ways on, with the first key of each list in hand.
+module _ (x y : ℕ) {xs ys ours theirs : List ℕ} (one : ours ≡ x ∷ xs) (other : theirs ≡ y ∷ ys) where
+  pub shared_met : x ≡ y → Some x ≡ given (shared ours theirs)
+  unfolding shared
+  shared_met e = rw (one, other, eq-eqb x y e)
 
-  pub shared_other : ascending xs ≡ true → (get_or xs i 0 ≡ get_or ys j 0 → ⊥) → get_or ys j 0 ≤ get_or xs i 0
-      → shared_from i j xs ys ≡ shared_from i (j + 1) xs ys
-  unfolding shared_from
-  shared_other a n h =
-      let l : get_or ys j 0 < get_or xs i 0 = omega arith in
-      rw (from_here ys j other) (pass_other (get_or ys j 0) (drop i xs) (drop (j + 1) ys) (above_from (get_or ys j 0) xs i one a l))
+  pub shared_one : ascending theirs ≡ true → x < y → shared ours theirs ≡ shared xs theirs
+  unfolding ascending
+  shared_one a h = rw (one, other) (pass_one x xs (y ∷ ys) (above_first x y ys h (rw other at a)))
 
--- Nothing is shared from the end of either list on.
-pub shared_end_one : (xs ys : List ℕ) (i j : ℕ) → length xs ≤ i → shared_from i j xs ys ≡ none
-unfolding shared_from shared
-shared_end_one xs ys i j l = rw (drop_of_length-le xs l)
+  pub shared_other : ascending ours ≡ true → y < x → shared ours theirs ≡ shared ours ys
+  unfolding ascending
+  shared_other a h = rw (one, other) (pass_other y (x ∷ xs) ys (above_first y x xs h (rw one at a)))
 
-pub shared_end_other : (xs ys : List ℕ) (i j : ℕ) → length ys ≤ j → shared_from i j xs ys ≡ none
-unfolding shared_from
-shared_end_other xs ys i j l = rw (drop_of_length-le ys l) (shared_nothing (drop i xs))
+-- What a comparison of two keys says.
+module _ (x y : ℕ) {answer : Ordering} (says : answer ≡ nat_cmp x y) where
+  pub is_less : answer ≡ Less → x < y
+  is_less e = rw e at (ranked x y answer says)
+
+  pub is_equal : answer ≡ Equal → x ≡ y
+  is_equal e = rw e at (ranked x y answer says)
+
+  pub is_greater : answer ≡ Greater → y < x
+  is_greater e = rw e at (ranked x y answer says)
+
+-- Two lists meet exactly where they share a key.
+pub given_meets : (xs ys : List ℕ) → is_some (given (shared xs ys)) ≡ meet xs ys
+unfolding meet
+given_meets xs ys = is_given (shared xs ys)

@@ -29,6 +29,10 @@ module _ {A : Type 0} where
       rw (length-append (take at l) (s ++ drop (at + length s) l), length-append s (drop (at + length s) l), length-take-le at l (omega arith), length-drop (at + length s) l)
       (omega arith)
 
+  pub part_cut : (o n : ℕ) (l : List A) → take (o + n - o) (drop o l) ≡ cut o n l
+  unfolding cut
+  part_cut o n l = let e : o + n - o ≡ n = omega arith in ap (λ (k : ℕ). take k (drop o l)) e
+
   -- a cut of the first elements is a cut of all
   cut_take : (o n m : ℕ) (l : List A) → o + n ≤ m → take n (drop o (take m l)) ≡ take n (drop o l)
   cut_take zero n m l h = take-take n m l (omega arith)

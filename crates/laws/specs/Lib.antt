@@ -8,3 +8,4 @@ pub mod Partitions
 pub mod Cuts
 pub mod Tabs
 pub mod Options
+pub mod Walks

@@ -1,6 +1,6 @@
 -- What a sound state says of rows: their counts are at most 8, their keys ascend and are below 1,024, and the keys stand in the table as parts of it.
 use Rattle.std.specs.Prelude.{ℕ, zero, suc, ◌+◌, ◌-◌, ◌≤◌, ◌<◌, min, Bool, true, false, not, List, [], ◌∷◌, ◌≡◌, ℤ, length, get_or}
-use Rattle.std.proofs.Common.{ap, ◌∙◌, subst, arith, ltb-false, leb-false}
+use Rattle.std.proofs.Common.{take, drop, ap, sym, ◌∙◌, subst, arith, ltb-false, leb-false}
 use Rattle.std.proofs.lemmas.Bool.{not-true, not-false}
 use Rattle.rules.specs.Lists.{any, all}
 use Rattle.rules.specs.Sizes.{keys, most_keys, most_kept}
@@ -8,10 +8,11 @@ use Rattle.rules.specs.Keys.{bad_key, too_many, bad_keys, ascending, good_set}
 use Rattle.rules.specs.Ledger.{keys_of}
 use Rattle.rules.specs.Soundness.{good_commit, good_entry}
 use Rattle.laws.specs.Tests.{and_left, and_right, or_left, or_right}
-use Rattle.laws.specs.Cuts.{cut, get_or_cut}
+use Rattle.laws.specs.Cuts.{cut, length_cut, part_cut, get_or_cut}
 use Rattle.laws.specs.Tabs.{tab, length_tab, tab_same, tab_cut}
 use Rattle.claims.specs.SoundParts.{GoodEntry, entry_facts}
 use Rattle.tables.specs.Rows.{row_reads, row_keys, row_writes, row_transaction, row_entry, row_commit, row_writes_keys}
+use Rattle.tables.specs.Layout.{book_words, waiting_row, kept_row}
 use Rattle.tables.specs.View.{waiting_words, kept_words, entry_at, commit_at, waiting_view, kept_view}
 
 -- A good set of keys: few, ascending, each below 1,024.
@@ -128,3 +129,29 @@ keys_part book o fits few =
     tab_same (get_or (cut o 24 book) 7 0) (λ j. get_or (cut o 24 book) (16 + j) 0) (λ j. get_or book (o + 16 + j) 0)
     (λ j low. get_or_cut o 24 book (16 + j) 0 (omega arith) ∙ ap (λ (k : ℕ). get_or book k 0) (regroup o 16 j))
     ∙ tab_cut (o + 16) (get_or (cut o 24 book) 7 0) book 0 (omega arith)
+
+-- So they are parts of the row itself.
+module _ (w : List ℕ) (whole : length w ≡ 24) (good : GoodRow w) where
+  pub reads_of_row : row_reads w ≡ cut 8 (get_or w 6 0) w
+  unfolding row_reads
+  reads_of_row = let few = good.few_reads in tab_cut 8 (get_or w 6 0) w 0 (omega arith)
+
+  pub keys_of_row : row_keys w ≡ cut 16 (get_or w 7 0) w
+  unfolding row_keys
+  keys_of_row = let few = good.few_keys in tab_cut 16 (get_or w 7 0) w 0 (omega arith)
+
+  pub reads_of_row_ascend : ascending (take (8 + get_or w 6 0 - 8) (drop 8 w)) ≡ true
+  reads_of_row_ascend = ap ascending (part_cut 8 (get_or w 6 0) w ∙ sym reads_of_row) ∙ good.reads_good.ascends
+
+  pub keys_of_row_ascend : ascending (take (16 + get_or w 7 0 - 16) (drop 16 w)) ≡ true
+  keys_of_row_ascend = ap ascending (part_cut 16 (get_or w 7 0) w ∙ sym keys_of_row) ∙ good.keys_good.ascends
+
+-- A row in a long enough table is whole.
+module _ (book : List ℕ) (long : book_words ≤ length book) where
+  pub waiting_whole : (i : ℕ) → i < 32 → length (waiting_words book i) ≡ 24
+  unfolding waiting_words
+  waiting_whole i low = length_cut (waiting_row i) 24 book (omega arith)
+
+  pub kept_whole : (v : ℕ) → length (kept_words book v) ≡ 24
+  unfolding kept_words
+  kept_whole v = length_cut (kept_row v) 24 book (omega arith)

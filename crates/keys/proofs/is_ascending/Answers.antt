@@ -1,13 +1,12 @@
-use mathlib.Core.Path.{sym, ◌∙◌}
-use borrow.Author.Rules.{rules}
-use Rattle.keys.specs.Ascending.{ascending_step, ascending_fails, ascending_short}
+-- `keys::is_ascending` meets its contract: the library's walk over neighbours answers what the rules ask.
+use Rattle.std.specs.Prelude.{ltb}
+use Rattle.std.proofs.Common.{rules}
+use borrow.Author.Tests.{tests}
+use Rattle.std.proofs.lemmas.Fn.{always_returns_same}
+use Rattle.keys.specs.Ascending.{sorted_ascends}
 use Rattle.keys.proofs.is_ascending.Goals as goal
 
-pub returns-then-keys-i : goal.returns-then-keys-i
-returns-then-keys-i c = sym (c.loop-i.invariant.1 ∙ ascending_fails _ _ c.loop-i-test.true c.if-keys-i.true)
-
-pub loop-i-preserved : goal.loop-i-preserved
-loop-i-preserved c = (search rules, c.loop-i.invariant.1 ∙ ascending_step _ _ c.loop-i-test.true c.if-keys-i.false)
-
 pub returns : goal.returns
-returns c = sym (c.loop-i.invariant.1 ∙ ascending_short _ _ c.loop-i-test.false)
+returns c =
+    sorted_ascends c.args.keys.now c.is_sorted_by.result
+    (c.is_sorted_by.ensures.cases ltb (always_returns_same _ _ _ (λ a r q k. search (rules, tests))))

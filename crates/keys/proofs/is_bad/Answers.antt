@@ -1,14 +1,17 @@
-use mathlib.Core.Path.{sym, ◌∙◌, ap}
-use mathlib.Core.Bool.{not}
-use borrow.Author.Rules.{rules}
-use Rattle.keys.specs.Limits.{bad_here, bad_later, bad_nowhere, bad_found, bad_order}
+-- `keys::is_bad` meets its contract: a key over 1,023 is found, or none is and the order decides.
+use Rattle.std.proofs.Common.{rules, ◌∙◌}
+use borrow.Author.Tests.{tests}
+use Rattle.std.proofs.lemmas.Iterator.{YieldsList-from_slice}
+use Rattle.std.proofs.lemmas.Iterator.Search.{any_from_yields_List}
+use Rattle.rules.specs.Keys.{bad_key}
+use Rattle.laws.specs.Walks.{any_list}
+use Rattle.keys.specs.Limits.{some_bad, none_bad}
 use Rattle.keys.proofs.is_bad.Goals as goal
 
-pub returns-then-keys-i-ge-KEYS : goal.returns-then-keys-i-ge-KEYS
-returns-then-keys-i-ge-KEYS c = sym (bad_found _ _ c.loop-i.invariant.1 (bad_here _ _ c.loop-i-test.true c.if-keys-i-ge-KEYS.true))
+pub returns-then-any : goal.returns-then-any
+returns-then-any c =
+    some_bad c.args.keys.now (any_from_yields_List bad_key _ _ _ c.any.ensures.ran (YieldsList-from_slice c.args.keys.now cc) (λ x b q k. search (rules, tests)) ∙ any_list bad_key c.args.keys.now) c.if-any.true
 
-pub loop-i-preserved : goal.loop-i-preserved
-loop-i-preserved c = (search rules, c.loop-i.invariant.1 ∙ bad_later _ _ c.loop-i-test.true c.if-keys-i-ge-KEYS.false)
-
-pub returns : goal.returns
-returns c = ap not c.is_ascending.ensures ∙ bad_order _ _ c.loop-i.invariant.1 (bad_nowhere _ _ c.loop-i-test.false)
+pub returns-else-any : goal.returns-else-any
+returns-else-any c =
+    none_bad c.args.keys.now (any_from_yields_List bad_key _ _ _ c.any.ensures.ran (YieldsList-from_slice c.args.keys.now cc) (λ x b q k. search (rules, tests)) ∙ any_list bad_key c.args.keys.now) c.if-any.false c.is_ascending.ensures

@@ -1,0 +1,47 @@
+-- The library's walks over a list and over a range of numbers, as the rules' tests of all its elements.
+use Rattle.std.specs.Prelude.{ℕ, zero, suc, ◌+◌, Bool, List, [], ◌∷◌, ◌≡◌, refl}
+use Rattle.std.proofs.Common.{ap, ap₂, sym, ◌∙◌, arith}
+use Rattle.std.proofs.Math.Bool.{◌&&◌, ◌||◌}
+use Rattle.std.specs.List.{list_any, list_all, range_with_len}
+use Rattle.rules.specs.Lists.{any, all}
+use Rattle.laws.specs.Tabs.{tab}
+
+same_place : (a : ℕ) → a ≡ a + 0
+same_place a = omega arith
+
+next_place : (a i : ℕ) → a + suc i ≡ a + 1 + i
+next_place a i = omega arith
+
+next_zero : (i : ℕ) → i ≡ 0 + i
+next_zero i = omega arith
+
+module _ {A : Type 0} where
+  pub any_list : (f : A → Bool) (xs : List A) → list_any f xs ≡ any f xs
+  any_list f [] = refl
+  any_list f (x ∷ xs) = ap (λ (b : Bool). f x || b) (any_list f xs)
+
+  pub all_list : (f : A → Bool) (xs : List A) → list_all f xs ≡ all f xs
+  all_list f [] = refl
+  all_list f (x ∷ xs) = ap (λ (b : Bool). f x && b) (all_list f xs)
+
+  module _ (f : A → Bool) (g : ℕ → A) where
+    any_from : (h : ℕ → A) (a n : ℕ) → ((i : ℕ) → g (a + i) ≡ h i) → list_any (λ i. f (g i)) (range_with_len a n) ≡ any f (tab n h)
+    unfolding tab
+    any_from h a zero same = refl
+    any_from h a (suc n) same =
+        ap₂ ◌||◌ (ap f (ap g (same_place a) ∙ same 0))
+        (any_from (λ i. h (suc i)) (a + 1) n (λ i. sym (ap g (next_place a i)) ∙ same (suc i)))
+
+    all_from : (h : ℕ → A) (a n : ℕ) → ((i : ℕ) → g (a + i) ≡ h i) → list_all (λ i. f (g i)) (range_with_len a n) ≡ all f (tab n h)
+    unfolding tab
+    all_from h a zero same = refl
+    all_from h a (suc n) same =
+        ap₂ ◌&&◌ (ap f (ap g (same_place a) ∙ same 0))
+        (all_from (λ i. h (suc i)) (a + 1) n (λ i. sym (ap g (next_place a i)) ∙ same (suc i)))
+
+    -- A test asked of the first n numbers, by what a function gives at each.
+    pub any_range : (n : ℕ) → list_any (λ i. f (g i)) (range_with_len 0 n) ≡ any f (tab n g)
+    any_range n = any_from g 0 n (λ i. ap g (sym (next_zero i)))
+
+    pub all_range : (n : ℕ) → list_all (λ i. f (g i)) (range_with_len 0 n) ≡ all f (tab n g)
+    all_range n = all_from g 0 n (λ i. ap g (sym (next_zero i)))

@@ -1,0 +1,71 @@
+// The words of a ledger: six counters, then the rows of the waiting list, then the kept rows.
+ghost use Rattle.std.specs.Prelude.{◌≤◌, ◌<◌, ◌≡◌, length, get_or};
+ghost use Rattle.tables.specs.Layout.{book_words, partitions_at, own_at, sc_at, dc_at, k_at, waiting_at};
+ghost use Rattle.tables.specs.View.{waiting_words, kept_words};
+
+use crate::{COUNTERS, KEPT_ROWS, ROW, VERSIONS};
+
+// Words that are long enough for every counter and row, whatever stands in them.
+#[derive(Clone, Copy)]
+pub struct Book<'a> {
+    pub words: &'a [u32],
+    pub ghost long: { book_words ≤ length words.now },
+}
+
+impl<'a> Book<'a> {
+    // How many partitions were opened.
+    pub fn partitions(self) -> u32
+        ensures { result ≡ get_or self.entry.words.now partitions_at 0 }
+    {
+        self.words[0]
+    }
+
+    // Our own partition.
+    pub fn own(self) -> u32
+        ensures { result ≡ get_or self.entry.words.now own_at 0 }
+    {
+        self.words[1]
+    }
+
+    pub fn sc(self) -> u32
+        ensures { result ≡ get_or self.entry.words.now sc_at 0 }
+    {
+        self.words[2]
+    }
+
+    pub fn dc(self) -> u32
+        ensures { result ≡ get_or self.entry.words.now dc_at 0 }
+    {
+        self.words[3]
+    }
+
+    pub fn k(self) -> u32
+        ensures { result ≡ get_or self.entry.words.now k_at 0 }
+    {
+        self.words[4]
+    }
+
+    // How many wait.
+    pub fn waiting(self) -> u32
+        ensures { result ≡ get_or self.entry.words.now waiting_at 0 }
+    {
+        self.words[5]
+    }
+
+    // Row i of the waiting list.
+    pub fn waiting_row(self, i: usize) -> &'a [u32]
+        requires { i < 32 }
+        ensures { result.now ≡ waiting_words self.entry.words.now i }
+    {
+        let at = COUNTERS + ROW * i;
+        &self.words[at..at + ROW]
+    }
+
+    // The row that keeps a version: one of 64.
+    pub fn kept_row(self, version: u32) -> &'a [u32]
+        ensures { result.now ≡ kept_words self.entry.words.now version }
+    {
+        let at = KEPT_ROWS + ROW * (version % VERSIONS) as usize;
+        &self.words[at..at + ROW]
+    }
+}

@@ -1,0 +1,30 @@
+// What is lent: the two tables of a ledger, and a transaction that is delivered.
+ghost use Rattle.std.specs.Prelude.{◌≤◌, length};
+ghost use Rattle.tables.specs.Layout.{book_words, sums_words};
+
+// Two tables to read, of any length and with anything in them.
+#[derive(Clone, Copy)]
+pub struct Lent<'a> {
+    pub book: &'a [u32],
+    pub sums: &'a [i64],
+}
+
+// Two tables to change, long enough for a state.
+#[derive(Drop)]
+pub struct Ledger<'a> {
+    pub book: &'a mut [u32],
+    pub sums: &'a mut [i64],
+    pub ghost long: { book_words ≤ length book.now },
+    pub ghost long_sums: { sums_words ≤ length sums.now },
+}
+
+// A transaction as it is delivered: the keys read, the keys written, and an amount for each key written.
+#[derive(Clone, Copy)]
+pub struct Transaction<'a> {
+    pub identity: u32,
+    pub set: u32,
+    pub st: u32,
+    pub reads: &'a [u32],
+    pub keys: &'a [u32],
+    pub amounts: &'a [i64],
+}
