@@ -1,15 +1,13 @@
-use mathlib.Core.Path.{refl}
-use Rattle.moves.specs.Steps.{lay_start, lay_step, lay_end}
+-- What std writes into a part of a slice is `put_mid`: the part is as long as s, and holds s now.
+use Rattle.std.specs.Prelude.{length}
+use Rattle.std.proofs.Common.{◌∙◌, arith, refl}
+use Rattle.std.proofs.lemmas.Slice.{put_mid-paste}
+use Rattle.std.proofs.lemmas.List.Edits.{paste_all}
+use Rattle.laws.specs.Cuts.{put}
 use Rattle.moves.proofs.lay.Goals as goal
 
-pub loop-j-init : goal.loop-j-init
-loop-j-init c = lay_start _ _ _
-
-pub loop-j-preserved : goal.loop-j-preserved
-loop-j-preserved c = lay_step 0 c.loop-j.invariant c.requires c.loop-j-test.true refl
-
-pub shape_of-t : goal.shape_of-t
-shape_of-t c = c.loop-j.invariant.long
-
 pub returns : goal.returns
-returns c = lay_end c.loop-j.invariant c.loop-j-test.false
+unfolding put
+returns g c =
+    put_mid-paste c.args.at _ c.args.t.now _ c.args.s.now (length c.args.s.now) c.copy_from_slice.ensures.after (omega arith) refl
+    ∙ paste_all c.args.t.now c.args.at c.args.s.now (length c.args.s.now) refl
