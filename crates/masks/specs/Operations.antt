@@ -75,9 +75,12 @@ names_shifted set (suc p) =
     let halves : set / 2 ^ suc p ≡ set / 2 / 2 ^ p = rw pow-succ' (sym (div-div-eq-div-mul set 2 (2 ^ p))) in
     rw halves (names_shifted (set / 2) p)
 
--- A word of n bits names no partition from n on.
+-- A word of n bits names no partition from n on; a word of the tables has 32.
 pub names_outside : (n set p : ℕ) → set < 2 ^ n → n ≤ p → false ≡ names set p
 names_outside n set p l m = split (names set p) (λ q. let k : p < n = names_within n set p l q in absurd (omega arith)) (λ q. sym q)
+
+pub names_outside_word : (set p : ℕ) → set < 2 ^ 32 → 32 ≤ p → false ≡ names set p
+names_outside_word set p l m = names_outside 32 set p l m
 
 -- The set of p alone by a shift to the left, in a word of n bits.
 pub shift_only : (n p : ℕ) → p < n → 1 * 2 ^ p % 2 ^ n ≡ only p

@@ -1,10 +1,10 @@
--- A set of partitions by its words in the rules: one of the others, one more, a bad set, a local one. Each law takes what a test or a shift of the code gives.
-use Rattle.std.specs.Prelude.{ℕ, ◌*◌, ◌^◌, ◌%◌, ◌≤◌, ◌<◌, Bool, true, false, not, ◌≡◌, eqb, leb}
+-- A set of partitions by its words in the rules: one of the others, one more, a bad set. Each law takes what a test or a shift of the code gives.
+use Rattle.std.specs.Prelude.{ℕ, ◌*◌, ◌^◌, ◌%◌, ◌≤◌, ◌<◌, Bool, true, false, not, ◌≡◌, leb}
 use Rattle.std.proofs.Math.Bool.{and-true, and-false}
 use Rattle.std.proofs.Common.{sym, ◌∙◌, eq-eqb, ne_eqb, arith}
 use Rattle.std.proofs.lemmas.Bool.{not-true, not-false}
 use Rattle.std.specs.Int.Bits.{bit_or}
-use Rattle.rules.specs.Partitions.{names, with_partition, only, bad_set, other}
+use Rattle.rules.specs.Partitions.{names, with_partition, bad_set, other}
 use Rattle.masks.specs.Operations.{shift_only, or_only}
 
 -- One of "the involved partitions, less our own".
@@ -16,12 +16,9 @@ pub other_is_named : (own set p : ℕ) → (p ≡ own → ⊥) → names set p �
 unfolding other
 other_is_named own set p n = rw (ne_eqb p own n) (sym (and-true (names set p)))
 
--- The set with p in it too, and the set of p alone, by a shift in a word.
-pub with_shift : (set p : ℕ) → p < 8 → bit_or set (1 * 2 ^ p % 2 ^ 32) ≡ with_partition p set
-with_shift set p l = rw (shift_only 32 p (omega arith)) (or_only set p)
-
-pub local_shift : (set own : ℕ) → own < 8 → eqb set (1 * 2 ^ own % 2 ^ 32) ≡ eqb set (only own)
-local_shift set own l = rw (shift_only 32 own (omega arith))
+-- The set with p in it too, by a shift in a byte.
+pub with_shift : (set p : ℕ) → p < 8 → bit_or set (1 * 2 ^ p % 256) ≡ with_partition p set
+with_shift set p l = rw (shift_only 8 p l) (or_only set p)
 
 -- "partition set lacks our own, or names one beyond the number opened"
 pub lacks_own : (opened own set : ℕ) (r : Bool) → r ≡ names set own → not r ≡ true → true ≡ bad_set opened own set

@@ -31,20 +31,19 @@ eqb_turned a b =
     (λ q. rw q (eq-eqb a b (sym (eqb-true b a q))))
     (λ q. rw q (ne_eqb a b (λ e. eqb-false b a q (sym e))))
 
-pub others_mask : (own set m : ℕ) → own < 8 → m ≡ set → Names (bit_and m (255 - 1 * 2 ^ own % 256)) (other own set)
+pub others_mask : (own set : ℕ) → own < 8 → Names (bit_and set (255 - 1 * 2 ^ own % 256)) (other own set)
 unfolding other
-others_mask own set m l e =
-    rw (e, shift_only 8 own l)
+others_mask own set l =
+    rw (shift_only 8 own l)
     (names_less set (only own) (names set) (λ p. eqb p own) (pow-lt l) (λ p low. refl) (λ p low. names_only own p ∙ eqb_turned own p))
 
 -- "The votes outstanding are the involved partitions, less our own and less those heard."
-pub outstanding_mask : (own set ayes nays m x y : ℕ) → ayes < 256 → nays < 256 → x ≡ ayes → y ≡ nays → Names m (other own set)
-    → Names (bit_and m (255 - bit_or x y)) (outstanding own set (record { ayes = ayes; nays = nays }))
+pub outstanding_mask : (own set ayes nays m : ℕ) → ayes < 256 → nays < 256 → Names m (other own set)
+    → Names (bit_and m (255 - bit_or ayes nays)) (outstanding own set (record { ayes = ayes; nays = nays }))
 unfolding outstanding heard_from
-outstanding_mask own set ayes nays m x y l n d e k =
-    rw (d, e)
-    (names_less m (bit_or ayes nays) (other own set) (λ p. names ayes p || names nays p) (or_lt 8 ayes nays l n) k
-    (λ p low. names_or ayes nays p))
+outstanding_mask own set ayes nays m l n k =
+    names_less m (bit_or ayes nays) (other own set) (λ p. names ayes p || names nays p) (or_lt 8 ayes nays l n) k
+    (λ p low. names_or ayes nays p)
 
 -- "no vote is outstanding": no bit of that mask counts.
 pub none_outstanding : (own set m : ℕ) (h : Heard) → m < 256 → Names m (outstanding own set h)
@@ -54,13 +53,12 @@ none_outstanding own set m h l k =
     ones_none m ∙ empty_mask (outstanding own set h) m l k ∙ sym (none_passes (outstanding own set h) every_partition)
 
 -- "if every vote was yes": nobody is both awaited and among the nays.
-pub none_said_no : (own set ayes nays m x : ℕ) → nays < 256 → x ≡ nays → Names m (other own set)
-    → eqb (bit_and m x) 0 ≡ every_vote_yes own set (record { ayes = ayes; nays = nays })
+pub none_said_no : (own set ayes nays m : ℕ) → nays < 256 → Names m (other own set)
+    → eqb (bit_and m nays) 0 ≡ every_vote_yes own set (record { ayes = ayes; nays = nays })
 unfolding every_vote_yes
-none_said_no own set ayes nays m x l e k =
-    rw e
-    (empty_mask (λ p. other own set p && names nays p) (bit_and m nays) (lt_of_le_of_lt (and_le_r m nays) l)
-    (names_both m nays (other own set) (names nays) k (λ p low. refl)))
+none_said_no own set ayes nays m l k =
+    empty_mask (λ p. other own set p && names nays p) (bit_and m nays) (lt_of_le_of_lt (and_le_r m nays) l)
+    (names_both m nays (other own set) (names nays) k (λ p low. refl))
 
 -- "stored votes come from other involved partitions": nobody voted that isn't one, and nobody beyond partition 7.
 unless : (a b : Bool) → not (a && not b) ≡ (not a || b)
@@ -68,11 +66,11 @@ unless true true = refl
 unless true false = refl
 unless false b = refl
 
-pub none_strange : (own set voters m x : ℕ) → voters < 256 → x ≡ voters → m < 256 → Names m (other own set)
-    → eqb (bit_and x (255 - m)) 0 ≡ from_others own set voters
+pub none_strange : (own set voters m : ℕ) → voters < 256 → m < 256 → Names m (other own set)
+    → eqb (bit_and voters (255 - m)) 0 ≡ from_others own set voters
 unfolding from_others
-none_strange own set voters m x l e b k =
-    rw (e, lt-leb 256 voters l)
+none_strange own set voters m l b k =
+    rw (lt-leb 256 voters l)
     (empty_mask (λ p. names voters p && not (other own set p)) (bit_and voters (255 - m)) (lt_of_le_of_lt (and_le_l voters (255 - m)) l)
     (names_less voters m (names voters) (other own set) b (λ p low. refl) k)
     ∙ all_same (λ p. not (names voters p && not (other own set p))) (λ p. not (names voters p) || other own set p)
