@@ -8,6 +8,8 @@ ghost use Rattle.tables.specs.Closed.{Desk, Fit, head_off};
 ghost use Rattle.tables.specs.Settled.{Ready, closed_desk, settled_book};
 ghost use Rattle.closing.specs.Desks.{clock_of, desk_of};
 
+use masks::Partition;
+
 // The counters that a delivery and a change touch, and the sizes at opening.
 #[derive(Clone, Copy)]
 pub struct Clock {
@@ -34,7 +36,8 @@ fn take_head(c: Clock, t: Tally, book: &mut [u32], sums: &mut [i64], fin: &mut [
     let left = t.waiting - 1;
     let told = t.finished as usize;
     let identity = book[6];
-    if head::is_commit(book, c.own) {
+    let own = Partition { number: c.own };
+    if head::is_commit(book, own) {
         joining::tell(fin, told, identity, t.sc + 1);
         keeping::keep(book, sums, t.sc);
         joining::take_off(book, sums, left as usize);
@@ -61,7 +64,8 @@ pub fn close(c: Clock, t: Tally, book: &mut [u32], sums: &mut [i64], fin: &mut [
     if t.waiting == 0 {
         return t;
     }
-    if !head::is_ready(book, c.own, c.dc) {
+    let own = Partition { number: c.own };
+    if !head::is_ready(book, own, c.dc) {
         return t;
     }
     let next = take_head(c, t, book, sums, fin);

@@ -7,9 +7,6 @@ use Rattle.closing.proofs.take_head.Goals as goal
 pub is_commit-requires-clause-book_words_in_bounds : goal.is_commit-requires-clause-book_words_in_bounds
 is_commit-requires-clause-book_words_in_bounds c = c.requires.fit.long
 
-pub is_commit-requires-clause-own_bound : goal.is_commit-requires-clause-own_bound
-is_commit-requires-clause-own_bound c = (fit_numbers _ _ c.requires.fit).own_fits
-
 pub is_commit-requires-clause-byte_sets : goal.is_commit-requires-clause-byte_sets
 is_commit-requires-clause-byte_sets c = head_bytes _ _ c.requires.fact c.requires.fit
 
