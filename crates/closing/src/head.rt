@@ -15,39 +15,45 @@ const AYES: usize = 10; // who said yes
 
 const NAYS: usize = 11; // who said no
 
-// The votes on the head: each of its sets is a byte.
-fn votes(book: &[u32], own: Partition) -> Votes
-    requires book_words_in_bounds { book_words ≤ length book.now }
-    requires byte_sets { ByteSets (get_or book.now 7 0) (get_or book.now 10 0) (get_or book.now 11 0) }
-    ensures involved { result.involved ≡ get_or book.now 7 0 }
-    ensures ours { result.own.number ≡ own.number }
-    ensures ayes { result.ayes ≡ get_or book.now 10 0 }
-    ensures nays { result.nays ≡ get_or book.now 11 0 }
-{
-    Votes {
-        involved: book[SET] as u8,
-        own,
-        ayes: book[AYES] as u8,
-        nays: book[NAYS] as u8,
+// The head, as the book holds it: its three sets are bytes.
+#[derive(Clone, Copy)]
+pub struct Head<'a> {
+    pub book: &'a [u32],
+    pub own: Partition,
+    pub ghost book_words_in_bounds: { book_words ≤ length book.now },
+    pub ghost byte_sets: { ByteSets (get_or book.now 7 0) (get_or book.now 10 0) (get_or book.now 11 0) },
+}
+
+impl<'a> Head<'a> {
+    // The votes on the head.
+    fn votes(self) -> Votes
+        ensures involved { result.involved ≡ get_or self.entry.book.now 7 0 }
+        ensures ours { result.own.number ≡ self.entry.own.number }
+        ensures ayes { result.ayes ≡ get_or self.entry.book.now 10 0 }
+        ensures nays { result.nays ≡ get_or self.entry.book.now 11 0 }
+    {
+        Votes {
+            involved: self.book[SET] as u8,
+            own: self.own,
+            ayes: self.book[AYES] as u8,
+            nays: self.book[NAYS] as u8,
+        }
     }
-}
 
-// "A local head is ready. A global head is ready when DC >= rt and no vote is outstanding."
-#[tactic(auto, using(crate::specs::Heads::ready_local, crate::specs::Heads::ready_early, crate::specs::Heads::ready_votes))]
-pub fn is_ready(book: &[u32], own: Partition, dc: u32) -> bool
-    requires book_words_in_bounds { book_words ≤ length book.now }
-    requires byte_sets { ByteSets (get_or book.now 7 0) (get_or book.now 10 0) (get_or book.now 11 0) }
-    ensures { result ≡ row_ready own.number dc (waiting_words book.now 0) }
-{
-    masks::is_local(book[SET], own) || book[RT] <= dc && votes(book, own).none_outstanding()
-}
+    // "A local head is ready. A global head is ready when DC >= rt and no vote is outstanding."
+    #[tactic(auto, using(crate::specs::Heads::ready_local, crate::specs::Heads::ready_early, crate::specs::Heads::ready_votes))]
+    pub fn is_ready(self, dc: u32) -> bool
+        ensures { result ≡ row_ready self.entry.own.number dc (waiting_words self.entry.book.now 0) }
+    {
+        masks::is_local(self.book[SET], self.own)
+            || self.book[RT] <= dc && self.votes().none_outstanding()
+    }
 
-// "A local head commits. A global head commits if every vote was yes"
-#[tactic(auto, using(crate::specs::Heads::commits_local, crate::specs::Heads::commits_votes))]
-pub fn is_commit(book: &[u32], own: Partition) -> bool
-    requires book_words_in_bounds { book_words ≤ length book.now }
-    requires byte_sets { ByteSets (get_or book.now 7 0) (get_or book.now 10 0) (get_or book.now 11 0) }
-    ensures { result ≡ row_commits own.number (waiting_words book.now 0) }
-{
-    masks::is_local(book[SET], own) || votes(book, own).every_vote_yes()
+    // "A local head commits. A global head commits if every vote was yes"
+    #[tactic(auto, using(crate::specs::Heads::commits_local, crate::specs::Heads::commits_votes))]
+    pub fn is_commit(self) -> bool
+        ensures { result ≡ row_commits self.entry.own.number (waiting_words self.entry.book.now 0) }
+    {
+        masks::is_local(self.book[SET], self.own) || self.votes().every_vote_yes()
+    }
 }

@@ -8,6 +8,7 @@ ghost use Rattle.tables.specs.Closed.{Desk, Fit, head_off};
 ghost use Rattle.tables.specs.Settled.{Ready, closed_desk, settled_book};
 ghost use Rattle.closing.specs.Desks.{clock_of, desk_of};
 
+use head::Head;
 use masks::Partition;
 
 // The counters that a delivery and a change touch, and the sizes at opening.
@@ -36,8 +37,11 @@ fn take_head(c: Clock, t: Tally, book: &mut [u32], sums: &mut [i64], fin: &mut [
     let left = t.waiting - 1;
     let told = t.finished as usize;
     let identity = book[6];
-    let own = Partition { number: c.own };
-    if head::is_commit(book, own) {
+    let head = Head {
+        book,
+        own: Partition { number: c.own },
+    };
+    if head.is_commit() {
         joining::tell(fin, told, identity, t.sc + 1);
         keeping::keep(book, sums, t.sc);
         joining::take_off(book, sums, left as usize);
@@ -64,8 +68,11 @@ pub fn close(c: Clock, t: Tally, book: &mut [u32], sums: &mut [i64], fin: &mut [
     if t.waiting == 0 {
         return t;
     }
-    let own = Partition { number: c.own };
-    if !head::is_ready(book, own, c.dc) {
+    let head = Head {
+        book,
+        own: Partition { number: c.own },
+    };
+    if !head.is_ready(c.dc) {
         return t;
     }
     let next = take_head(c, t, book, sums, fin);

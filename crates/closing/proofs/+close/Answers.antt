@@ -5,8 +5,8 @@ use Rattle.closing.proofs.+close.Goals as goal
 pub returns-then-t-eq0 : goal.returns-then-t-eq0
 returns-then-t-eq0 t c = closed_none _ _ c.if-t-eq0.true
 
-pub is_ready-requires-clause-byte_sets : goal.is_ready-requires-clause-byte_sets
-is_ready-requires-clause-byte_sets t c = head_bytes _ _ c.if-t-eq0.false c.requires
+pub invariant_of-head-2-clause-byte_sets : goal.invariant_of-head-2-clause-byte_sets
+invariant_of-head-2-clause-byte_sets t c = head_bytes _ _ c.if-t-eq0.false c.requires
 
 pub returns-then-not-is_ready : goal.returns-then-not-is_ready
 returns-then-not-is_ready t c = closed_rest _ _ c.if-t-eq0.false (sym c.is_ready.ensures ∙ c.if-not-is_ready.true)

@@ -4,11 +4,8 @@ use mathlib.Core.Path.{sym, ◌∙◌}
 use native.Mathlib.Omega.{arith}
 use Rattle.closing.proofs.take_head.Goals as goal
 
-pub is_commit-requires-clause-book_words_in_bounds : goal.is_commit-requires-clause-book_words_in_bounds
-is_commit-requires-clause-book_words_in_bounds c = c.requires.fit.long
-
-pub is_commit-requires-clause-byte_sets : goal.is_commit-requires-clause-byte_sets
-is_commit-requires-clause-byte_sets c = head_bytes _ _ c.requires.fact c.requires.fit
+pub invariant_of-head-2-clause-byte_sets : goal.invariant_of-head-2-clause-byte_sets
+invariant_of-head-2-clause-byte_sets c = head_bytes _ _ c.requires.fact c.requires.fit
 
 pub overflow_add-t : goal.overflow_add-t
 overflow_add-t c = omega (arith, (fit_numbers _ _ c.requires.fit).sc_fits)
