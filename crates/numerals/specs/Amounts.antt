@@ -1,9 +1,9 @@
 -- Signed 64-bit values and their texts: where the sign stands, what is written is read back, and a value has one text.
 use Rattle.std.specs.Prelude.{ℕ, zero, suc, ◌-◌, ◌^◌, ◌≤◌, ◌<◌, Bool, true, false, List, [], ◌∷◌, ◌≡◌, refl, eqb, ℤ, pos, negsuc, nat_abs, length, take, drop, get_or}
-use Rattle.std.proofs.Common.{true≢false, sym, ap, ap₂, ◌∙◌, eq-eqb, ne_eqb, eqb-true, arith, take_all}
+use Rattle.std.proofs.Common.{true≢false, sym, ap, ap₂, ◌∙◌, eq-eqb, ne_eqb, eqb-true, le-ltb, arith, take_all}
 use Rattle.std.proofs.lemmas.Bool.{false≢true}
 use Rattle.std.proofs.Math.Option.{Option, none, some, map}
-use Rattle.std.specs.Int.Signed.{mag}
+use Rattle.std.specs.Int.Signed.{lt_z, mag}
 use Rattle.rules.specs.Lists.{all, member}
 use Rattle.rules.specs.Bytes.{is_digit, number, signed, below_zero, decimal, signed_text}
 use Rattle.laws.specs.Tests.{split, and_left, or_neither}
@@ -13,6 +13,12 @@ use Rattle.numerals.specs.Texts.{numeral, number_read_back, number_one_text}
 unfoldable pub is_below : ℤ → Bool
 is_below (pos n) = false
 is_below (negsuc n) = true
+
+-- The code's test is this one.
+pub below_test : (z : ℤ) → lt_z z (pos 0) ≡ is_below z
+unfolding is_below
+below_test (pos n) = le-ltb n 0 (omega arith)
+below_test (negsuc n) = refl
 
 -- The text is a minus, where there is one, and the magnitude's digits.
 pub text_below : (z : ℤ) → is_below z ≡ true → signed_text z ≡ 45 ∷ decimal (nat_abs z)
@@ -62,6 +68,9 @@ pub signed_plain : (s : List ℕ) → (length s ≡ 0 → ⊥) → (get_or s 0 0
 unfolding signed
 signed_plain [] n e = absurd (n refl)
 signed_plain (b ∷ bs) n e = rw (ne_eqb b 45 e)
+
+-- What `read_signed` goes by.
+pub ruleset first_byte = (signed_nothing, signed_minus, signed_plain)
 
 -- What is written is read back.
 signed_digits : (bs : List ℕ) → 0 < length bs → all is_digit bs ≡ true → signed bs ≡ map pos (number 9_223_372_036_854_775_807 bs)

@@ -4,6 +4,5 @@ pub mod Decimal
 pub mod Reading
 pub mod Texts
 pub mod Amounts
-pub mod Signs
 pub mod Writing
 pub mod Answers

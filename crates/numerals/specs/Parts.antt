@@ -1,6 +1,9 @@
 -- Parts of text: how far the first part of some bytes reaches, how the search for its end goes, and what the parts are when its end is known.
-use Rattle.std.specs.Prelude.{ℕ, suc, ◌+◌, ◌-◌, ◌≤◌, ◌<◌, false, cond, List, [], ◌∷◌, ◌++◌, ◌≡◌, refl, eqb, length, take, drop, get_or}
-use Rattle.std.proofs.Common.{sym, ap, ap₂, ◌∙◌, eq-eqb, ne_eqb, add-one, arith, length-drop, drop_of_length-le, drop-cons, drop-drop}
+use Rattle.std.specs.Prelude.{ℕ, suc, ◌+◌, ◌-◌, ◌≤◌, ◌<◌, false, cond, List, [], ◌∷◌, ◌++◌, ◌≡◌, refl, eqb, length, take, drop, Some, None}
+use Rattle.std.specs.List.{position, position_or_len}
+use Rattle.std.proofs.lemmas.List.Recursion.{is_position_or_len}
+use Rattle.std.proofs.lemmas.Bool.Decides.{nat_tests}
+use Rattle.std.proofs.Common.{sym, ap, ap₂, ◌∙◌, eq-eqb, ne_eqb, one-add, arith, length-drop, take_all, drop-drop}
 use Rattle.rules.specs.Lists.{member}
 use Rattle.rules.specs.Bytes.{split}
 use Rattle.laws.specs.Tests as tests
@@ -15,44 +18,33 @@ unfolding until
 until_most c [] = omega arith
 until_most c (b ∷ bs) = let rest = until_most c bs in tests.split (eqb b c) (λ q. rw q (omega arith)) (λ q. rw q (omega arith))
 
--- The search stands at j and has passed no c since i.
-pub record Seeking (s : List ℕ) (i c j : ℕ) : Type 0 where
-  pub most : j ≤ length s
-  pub same : j + until c (drop j s) ≡ i + until c (drop i s)
-
-pub seek_start : (s : List ℕ) (i c : ℕ) → i ≤ length s → Seeking s i c i
-seek_start s i c h = record { most = h; same = refl }
-
-until_here : (s : List ℕ) (c j : ℕ) → j < length s → get_or s j 0 ≡ c → until c (drop j s) ≡ 0
+-- It is where the first c stands, or the length.
+until_is_place : (c : ℕ) (l : List ℕ) → until c l ≡ position_or_len (λ b. eqb b c) l
 unfolding until
-until_here s c j l e = rw (drop-cons s j 0 l, eq-eqb (get_or s j 0) c e)
+until_is_place c = is_position_or_len (until c) (λ b. eqb b c) refl (λ b bs. simp one-add)
 
-until_later : (s : List ℕ) (c j : ℕ) → j < length s → (get_or s j 0 ≡ c → ⊥) → until c (drop j s) ≡ suc (until c (drop (j + 1) s))
-unfolding until
-until_later s c j l n = rw (drop-cons s j 0 l, ne_eqb (get_or s j 0) c n, add-one)
+place_some : {k : ℕ} (c : ℕ) (l : List ℕ) → Some k ≡ position (λ b. eqb b c) l → (k ≡ until c l) × (k < length l)
+place_some c l e = let same = until_is_place c l in (grind (arith, nat_tests), grind (arith, nat_tests))
 
-until_end : (s : List ℕ) (c j : ℕ) → length s ≤ j → until c (drop j s) ≡ 0
-unfolding until
-until_end s c j l = rw (drop_of_length-le s l)
+place_none : (c : ℕ) (l : List ℕ) → None ≡ position (λ b. eqb b c) l → until c l ≡ length l
+place_none c l e = let same = until_is_place c l in let most = until_most c l in grind (arith, nat_tests)
 
-pub seek_step : {s : List ℕ} {i c j : ℕ} → Seeking s i c j → j < length s → (get_or s j 0 ≡ c → ⊥) → Seeking s i c (j + 1)
-seek_step {s} {i} {c} {j} k l n =
-    let later = until_later s c j l n in
-    let same = k.same in
-    record { most = omega arith; same = omega arith }
+-- What `find` answers, searching the bytes from i on: at a c; at the end.
+module _ (s : List ℕ) (i c : ℕ) (h : i ≤ length s) where
+  rest : take (length s - i) (drop i s) ≡ drop i s
+  rest = let long = length-drop i s in take_all (length s - i) (drop i s) (omega arith)
 
--- What `find` answers: at a c; at the end.
-pub seek_found : {s : List ℕ} {i c j : ℕ} → Seeking s i c j → j < length s → get_or s j 0 ≡ c → (j ≡ i + until c (drop i s)) × (j ≤ length s)
-seek_found {s} {i} {c} {j} k l e =
-    let here = until_here s c j l e in
-    let same = k.same in
-    (omega arith, omega arith)
+  pub found_some : {k : ℕ} → Some k ≡ position (λ b. eqb b c) (take (length s - i) (drop i s)) → (i + k ≡ i + until c (drop i s)) × (i + k ≤ length s)
+  found_some e =
+      let long = length-drop i s in
+      let found = place_some c (drop i s) (rw rest at e) in
+      (omega arith, omega arith)
 
-pub seek_none : {s : List ℕ} {i c j : ℕ} → Seeking s i c j → length s ≤ j → (j ≡ i + until c (drop i s)) × (j ≤ length s)
-seek_none {s} {i} {c} {j} k l =
-    let end = until_end s c j l in
-    let same = k.same in
-    (omega arith, k.most)
+  pub found_none : None ≡ position (λ b. eqb b c) (take (length s - i) (drop i s)) → (length s ≡ i + until c (drop i s)) × (length s ≤ length s)
+  found_none e =
+      let long = length-drop i s in
+      let found = place_none c (drop i s) (rw rest at e) in
+      (omega arith, omega arith)
 
 -- The parts of a list by how far its first part reaches.
 split_some : (c : ℕ) (l : List ℕ) → until c l < length l → split c l ≡ take (until c l) l ∷ split c (drop (suc (until c l)) l)

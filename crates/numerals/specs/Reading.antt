@@ -1,5 +1,5 @@
 -- Digits read from the left within a limit, as the loop reads them, and that this is the rules' number.
-use Rattle.std.specs.Prelude.{ℕ, ◌+◌, ◌*◌, ◌-◌, ◌/◌, ◌≤◌, ◌<◌, true, false, not, cond, ◌&&◌, List, [], ◌∷◌, ◌⊎◌, ◌≡◌, refl, eqb, leb, length, drop, get_or}
+use Rattle.std.specs.Prelude.{ℕ, ◌+◌, ◌*◌, ◌-◌, ◌≤◌, ◌<◌, true, false, not, cond, ◌&&◌, List, [], ◌∷◌, ◌⊎◌, ◌≡◌, refl, eqb, leb, length, drop, get_or}
 use Rattle.std.proofs.Common.{inl, inr, ap, ◌∙◌, add-one, arith, drop_of_length-le, drop-cons}
 use Rattle.std.proofs.Math.Option.{Option, none, some}
 use borrow.Author.Tests.{le-leb, lt-leb}
@@ -65,25 +65,19 @@ module _ {s : List ℕ} {limit v i : ℕ} (k : Reads s limit v i) (l : i < lengt
   here = k.same ∙ ap (read_from limit v) (from_here s i l)
 
   -- a byte that is no digit
-  pub read_stops_below : get_or s i 0 < 48 → read_from limit 0 s ≡ none
-  read_stops_below h = here ∙ read_no_digit limit v (get_or s i 0) (drop (i + 1) s) (inl h)
-
-  pub read_stops_above : 57 < get_or s i 0 → read_from limit 0 s ≡ none
-  read_stops_above h = here ∙ read_no_digit limit v (get_or s i 0) (drop (i + 1) s) (inr h)
+  pub read_stops_other : (get_or s i 0 < 48) ⊎ (57 < get_or s i 0) → read_from limit 0 s ≡ none
+  read_stops_other h = here ∙ read_no_digit limit v (get_or s i 0) (drop (i + 1) s) h
 
   module _ (low : 48 ≤ get_or s i 0) (high : get_or s i 0 ≤ 57) where
     next : read_from limit 0 s ≡ read_from limit (v * 10 + (get_or s i 0 - 48)) (drop (i + 1) s)
     next = here ∙ read_digit limit v (get_or s i 0) (drop (i + 1) s) low high
 
-    -- a digit that makes the number too large: by its tens, by itself
-    pub read_stops_tens : limit / 10 < v → read_from limit 0 s ≡ none
-    read_stops_tens h = next ∙ read_over limit (v * 10 + (get_or s i 0 - 48)) (drop (i + 1) s) (omega arith)
+    -- a digit that makes the number too large
+    pub read_stops_over : limit < v * 10 + (get_or s i 0 - 48) → read_from limit 0 s ≡ none
+    read_stops_over h = next ∙ read_over limit (v * 10 + (get_or s i 0 - 48)) (drop (i + 1) s) h
 
-    pub read_stops_ones : v ≤ limit / 10 → limit - v * 10 < get_or s i 0 - 48 → read_from limit 0 s ≡ none
-    read_stops_ones t h = next ∙ read_over limit (v * 10 + (get_or s i 0 - 48)) (drop (i + 1) s) (omega arith)
-
-    pub read_step : v ≤ limit / 10 → get_or s i 0 - 48 ≤ limit - v * 10 → Reads s limit (v * 10 + (get_or s i 0 - 48)) (i + 1)
-    read_step t h = record { most = omega arith; low = omega arith; same = next }
+    pub read_step : v * 10 + (get_or s i 0 - 48) ≤ limit → Reads s limit (v * 10 + (get_or s i 0 - 48)) (i + 1)
+    read_step h = record { most = omega arith; low = h; same = next }
 
 pub read_end : {s : List ℕ} {limit v i : ℕ} → Reads s limit v i → length s ≤ i → read_from limit 0 s ≡ some v
 unfolding read_from digits_value
@@ -106,3 +100,8 @@ unfolding well_led
 led_first [] n m = absurd (n refl)
 led_first (b ∷ []) n m = absurd (m refl)
 led_first (b ∷ c ∷ bs) n m = refl
+
+-- What `is_well_led` and `digits` go by.
+pub ruleset leading = (led_nothing, led_alone, led_first)
+
+pub ruleset reading = (read_start, read_step, read_end, read_stops_other, read_stops_over)

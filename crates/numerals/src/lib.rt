@@ -1,168 +1,118 @@
 // Numbers and parts of text, on lent bytes: where a part ends, what number a part is, and a number written into a buffer.
 #![tactic(auto)]
 
-ghost use Rattle.std.specs.Prelude.{◌+◌, ◌≤◌, ◌<◌, ◌^◌, [], ◌∷◌, ◌≡◌, pos, negsuc, nat_abs, length, drop};
+ghost use Rattle.std.specs.List.{position};
+ghost use Rattle.std.specs.Prelude.{◌==◌, ◌+◌, ◌≤◌, ◌<◌, ◌^◌, [], ◌∷◌, ◌≡◌, pos, length, drop};
 ghost use Rattle.std.proofs.Math.Option.{map};
 ghost use Rattle.rules.specs.Bytes.{well_led, number, signed, below_zero, decimal, signed_text};
+ghost use Rattle.laws.specs.Options.{given};
 ghost use Rattle.numerals.specs.Parts.{until};
 ghost use Rattle.numerals.specs.Reading.{read_from};
 ghost use Rattle.numerals.specs.Writing.{Wrote};
-ghost use Rattle.numerals.specs.Amounts.{is_below};
-ghost use Rattle.numerals.specs.Answers.{number_of, amount_of};
 
 // The largest and the least signed 64-bit value, without their signs.
-const LARGEST: u64 = 9223372036854775807;
+const LARGEST: u64 = i64::MAX as u64;
 
-const LEAST: u64 = 9223372036854775808;
+const LEAST: u64 = i64::MAX as u64 + 1;
 
-// What a part is as an unsigned number.
-#[derive(Drop)]
-pub enum Number {
-    Value(u64),
-    Unreadable,
-}
-
-// What a part is as a signed 64-bit value.
-#[derive(Drop)]
-pub enum Amount {
-    Value(i64),
-    Unreadable,
+// The place of the first c, if there is one.
+fn first_place(s: &[u8], c: u8) -> Option<usize>
+    ensures { result ≡ position (λ b. b == c) s.now }
+{
+    s.iter().position(|b| *b == c)
 }
 
 // The place of the first byte c from i on, or the length where there is none: where the part that begins at i ends.
+#[tactic(auto, using(crate::specs::Parts::found_some, crate::specs::Parts::found_none))]
 pub fn find(s: &[u8], i: usize, c: u8) -> usize
     requires { i ≤ length s.now }
     ensures { (result ≡ i + until c (drop i s.now)) × (result ≤ length s.now) }
 {
-    let mut j = i;
-    while j < s.len() {
-        if s[j] == c {
-            return j;
-        }
-        j += 1;
+    match first_place(&s[i..], c) {
+        Some(k) => i + k,
+        None => s.len(),
     }
-    j
 }
 
 // "with no leading zeros"
+#[tactic(auto, using(crate::specs::Reading::leading))]
 fn is_well_led(s: &[u8]) -> bool
     ensures { result ≡ well_led s.now }
 {
-    if s.len() == 0 {
-        return false;
+    match s {
+        [] => false,
+        [_] => true,
+        [first, ..] => *first != b'0',
     }
-    if s.len() == 1 {
-        return true;
-    }
-    s[0] != b'0'
 }
 
-// The digits from the left on. Both tests against the limit come before the sum that they guard, so that no sum overflows whatever the limit.
-fn digits(s: &[u8], limit: u64) -> Number
-    ensures { result ≡ number_of (read_from limit 0 s.now) }
+// The digits from the left on. Each product and each sum is checked, so that none overflows whatever the limit: what doesn't fit 64 bits is over every limit.
+#[tactic(auto, using(crate::specs::Reading::reading))]
+fn digits(s: &[u8], limit: u64) -> Option<u64>
+    ensures { result ≡ given (read_from limit 0 s.now) }
 {
     let mut v: u64 = 0;
-    let mut i: usize = 0;
-    while i < s.len() {
-        let b = s[i];
-        if b < b'0' {
-            return Number::Unreadable;
+    for b in s {
+        if !b.is_ascii_digit() {
+            return None;
         }
-        if b'9' < b {
-            return Number::Unreadable;
+        v = v.checked_mul(10)?.checked_add(u64::from(*b - b'0'))?;
+        if limit < v {
+            return None;
         }
-        if limit / 10 < v {
-            return Number::Unreadable;
-        }
-        let d = (b - b'0') as u64;
-        if limit - v * 10 < d {
-            return Number::Unreadable;
-        }
-        v = v * 10 + d;
-        i += 1;
     }
-    Number::Value(v)
+    Some(v)
 }
 
 // An unsigned decimal number without leading zeros and within its field's limit. All of s is the number.
-pub fn read_number(s: &[u8], limit: u64) -> Number
-    ensures { result ≡ number_of (number limit s.now) }
+#[tactic(auto, using(crate::specs::Reading::number_led, crate::specs::Reading::number_unled))]
+pub fn read_number(s: &[u8], limit: u64) -> Option<u64>
+    ensures { result ≡ given (number limit s.now) }
 {
-    if is_well_led(s) {
-        return digits(s, limit);
+    if !is_well_led(s) {
+        return None;
     }
-    Number::Unreadable
+    digits(s, limit)
 }
 
-// The four places where the bits of a signed value are touched: a value from its magnitude, above zero or below it; is it below zero; its magnitude.
-fn above_zero(m: u64) -> i64
-    requires { m < 2 ^ 63 }
-    ensures { result ≡ pos m }
+// What has no minus in front. Its limit makes the cast exact.
+#[tactic(auto, using(crate::specs::Answers::value_within, crate::specs::Answers::plain_value))]
+fn plain(s: &[u8]) -> Option<i64>
+    ensures { result ≡ given (map pos (number 9_223_372_036_854_775_807 s.now)) }
 {
-    m as i64
-}
-
-// The value one below m's negative, so that the least value is reached too.
-fn below_zero(m: u64) -> i64
-    requires { m < 2 ^ 63 }
-    ensures { result ≡ negsuc m }
-{
-    -1 - (m as i64)
-}
-
-fn is_below_zero(v: i64) -> bool
-    ensures { result ≡ is_below v }
-{
-    v < 0
-}
-
-fn magnitude(v: i64) -> u64
-    ensures { result ≡ nat_abs v }
-{
-    if is_below_zero(v) {
-        return ((-1 - v) as u64) + 1; // one more than how far v lies below -1, so that the least value has a magnitude too
-    }
-    v as u64
-}
-
-fn plain(s: &[u8]) -> Amount
-    ensures { result ≡ amount_of (map pos (number 9_223_372_036_854_775_807 s.now)) }
-{
-    match read_number(s, LARGEST) {
-        Number::Value(m) => Amount::Value(above_zero(m)),
-        Number::Unreadable => Amount::Unreadable,
-    }
+    let m = read_number(s, LARGEST)?;
+    Some(m as i64)
 }
 
 // What stands behind a minus. "`-0` is unreadable."
-fn negative(s: &[u8]) -> Amount
-    ensures { result ≡ amount_of (below_zero (number 9_223_372_036_854_775_808 s.now)) }
+#[tactic(auto, using(crate::specs::Answers::value_within, crate::specs::Answers::below_value, crate::specs::Answers::negative_value))]
+fn negative(s: &[u8]) -> Option<i64>
+    ensures { result ≡ given (below_zero (number 9_223_372_036_854_775_808 s.now)) }
 {
-    match read_number(s, LEAST) {
-        Number::Value(m) => {
-            if m == 0 {
-                return Amount::Unreadable;
-            }
-            Amount::Value(below_zero(m - 1))
-        }
-        Number::Unreadable => Amount::Unreadable,
+    let m = read_number(s, LEAST)?;
+    if m == 0 {
+        return None;
     }
+    0i64.checked_sub_unsigned(m)
 }
 
 // A signed 64-bit value: a minus may stand first.
-pub fn read_signed(s: &[u8]) -> Amount
-    ensures { result ≡ amount_of (signed s.now) }
+#[tactic(auto, using(crate::specs::Amounts::first_byte))]
+pub fn read_signed(s: &[u8]) -> Option<i64>
+    ensures { result ≡ given (signed s.now) }
 {
-    if s.len() == 0 {
-        return Amount::Unreadable;
+    match s {
+        [] => None,
+        [b'-', rest @ ..] => negative(rest),
+        [_, ..] => plain(s),
     }
-    if s[0] == b'-' {
-        return negative(&s[1..]);
-    }
-    plain(s)
 }
 
 // Bytes laid over a buffer from a place on; each writer gives the place behind what it wrote.
+// Each takes the buffer and the place as they are: the buffer is lent and of fixed size (no heap), and a cursor struct would have to promise in each method that it still lends the same buffer, so it is no plainer.
+
+// One byte.
+#[tactic(auto, using(crate::specs::Writing::wrote_byte))]
 pub fn write_byte(out: &mut [u8], at: usize, b: u8) -> usize
     requires { at < length out.old }
     ensures { Wrote out.old at (b ∷ []) out.new result }
@@ -171,6 +121,7 @@ pub fn write_byte(out: &mut [u8], at: usize, b: u8) -> usize
     at + 1
 }
 
+// A digit's byte.
 fn digit(d: u64) -> u8
     requires { d < 10 }
     ensures { result ≡ 48 + d }
@@ -190,6 +141,8 @@ fn write_digits(out: &mut [u8], at: usize, v: u64) -> usize
     write_byte(out, last, digit(v % 10))
 }
 
+// A number in decimal, which has at most 20 digits.
+#[tactic(auto, using(crate::specs::Writing::room_number))]
 pub fn write_number(out: &mut [u8], at: usize, v: u64) -> usize
     requires { at + 20 ≤ length out.old }
     ensures { Wrote out.old at (decimal v) out.new result }
@@ -197,13 +150,14 @@ pub fn write_number(out: &mut [u8], at: usize, v: u64) -> usize
     write_digits(out, at, v)
 }
 
+// A signed 64-bit value in decimal, behind a minus where it is below zero.
 pub fn write_signed(out: &mut [u8], at: usize, v: i64) -> usize
     requires { at + 20 ≤ length out.old }
     ensures { Wrote out.old at (signed_text v) out.new result }
 {
-    if is_below_zero(v) {
+    if v < 0 {
         let first = write_byte(out, at, b'-');
-        return write_digits(out, first, magnitude(v));
+        return write_digits(out, first, v.unsigned_abs());
     }
-    write_digits(out, at, magnitude(v))
+    write_digits(out, at, v.unsigned_abs())
 }
