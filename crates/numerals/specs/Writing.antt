@@ -1,11 +1,11 @@
 -- Text laid over a buffer: what a writer leaves, and that two writers one behind the other leave what one would.
-use Rattle.std.specs.Prelude.{ℕ, ◌+◌, ◌/◌, ◌%◌, ◌^◌, ◌≤◌, ◌<◌, true, false, List, [], ◌∷◌, ◌++◌, ◌↔◌, ◌≡◌, refl, ℤ, nat_abs, length, set}
-use Rattle.std.proofs.Common.{sym, ap, ◌∙◌, arith, length-append}
+use Rattle.std.specs.Prelude.{ℕ, ◌+◌, ◌/◌, ◌^◌, ◌≤◌, ◌<◌, List, [], ◌∷◌, ◌++◌, ◌↔◌, ◌≡◌, refl, ℤ, nat_abs, length, set}
+use Rattle.std.proofs.Common.{to_z-of_z, sym, ap, ◌∙◌, arith, length-append}
 use Rattle.std.specs.Int.Signed.{mag}
-use Rattle.rules.specs.Bytes.{decimal, signed_text}
+use Rattle.rules.specs.Bytes.{decimal}
 use Rattle.laws.specs.Cuts.{put, set_put, put_put, length_put}
 use Rattle.numerals.specs.Decimal.{decimal_small, decimal_large, decimal_length_large, decimal_some, decimal_fits}
-use Rattle.numerals.specs.Amounts.{is_below, text_below, text_above, magnitude_fits}
+use Rattle.numerals.specs.Amounts.{below_test, text_below, text_above, magnitude_fits}
 
 -- The buffer o with the text s at a place is o', and p is the place behind s.
 pub record Wrote (o : List ℕ) (at : ℕ) (s o' : List ℕ) (p : ℕ) : Type 0 where
@@ -37,17 +37,7 @@ wrote_as {o} {o'} {at} {p} e w =
 pub wrote_length : {o o' : List ℕ} {at p : ℕ} {s : List ℕ} → at + length s ≤ length o → Wrote o at s o' p → length o' ≡ length o
 wrote_length {o} {o'} {at} {p} {s} fits w = ap length w.text ∙ length_put o at s fits
 
--- A number is its digits before the last one and the last one.
-pub wrote_small : {o o' : List ℕ} {at v p b : ℕ} → v < 10 → b ≡ 48 + v → Wrote o at (b ∷ []) o' p → Wrote o at (decimal v) o' p
-wrote_small {v} h e w = wrote_as (ap (λ (k : ℕ). k ∷ []) e ∙ sym (decimal_small v h)) w
-
-pub wrote_large : {o o' o'' : List ℕ} {at v p q b : ℕ} → 10 ≤ v → at + length (decimal v) ≤ length o → b ≡ 48 + v % 10
-    → Wrote o at (decimal (v / 10)) o' p → Wrote o' p (b ∷ []) o'' q → Wrote o at (decimal v) o'' q
-wrote_large {v} h fits e one other =
-    let long = decimal_length_large v h in
-    wrote_as (ap (λ (k : ℕ). decimal (v / 10) ++ k ∷ []) e ∙ sym (decimal_large v h)) (wrote_both (omega arith) one other)
-
--- There is room for a number; for its last digit behind the others; for a value without its minus, and behind it.
+-- There is room for a number; for its last digit behind the others; for a value's magnitude, and behind a byte.
 pub room_number : (at v n : ℕ) → v < 2 ^ 64 → at + 20 ≤ n → at + length (decimal v) ≤ n
 room_number at v n h fits = let digits = decimal_fits v h in omega arith
 
@@ -65,24 +55,19 @@ room_last {o} {o'} {at} {v} h fits w =
     let place = w.place in
     omega arith
 
-pub room_plain : {m : ℕ} {z y : ℤ} (at n : ℕ) → y ≡ z → m ≡ nat_abs y → mag z < 2 ^ 63 → at + 20 ≤ n → at + length (decimal m) ≤ n
-room_plain {m} {z} at n e d h fits =
-    let digits : length (decimal m) ≤ 19 = rw (d ∙ ap nat_abs e) (magnitude_fits z h) in omega arith
+pub room_plain : (z : ℤ) (at n : ℕ) → mag z < 2 ^ 63 → at + 20 ≤ n → at + length (decimal (nat_abs z)) ≤ n
+room_plain z at n h fits = let digits = magnitude_fits z h in omega arith
 
-pub room_below : {o o' : List ℕ} {at p m : ℕ} {z y : ℤ} → y ≡ z → m ≡ nat_abs y → mag z < 2 ^ 63 → at + 20 ≤ length o → Wrote o at (45 ∷ []) o' p
-    → p + length (decimal m) ≤ length o'
-room_below {o} {o'} {at} {p} {m} {z} e d h fits w =
-    let digits : length (decimal m) ≤ 19 = rw (d ∙ ap nat_abs e) (magnitude_fits z h) in
+pub room_below : {o o' : List ℕ} {at p b : ℕ} (z : ℤ) → mag z < 2 ^ 63 → at + 20 ≤ length o → Wrote o at (b ∷ []) o' p
+    → p + length (decimal (nat_abs z)) ≤ length o'
+room_below {o} {o'} {at} {p} z h fits w =
+    let digits = magnitude_fits z h in
     let same : length o' ≡ length o = wrote_length (omega arith) w in
     let place : p ≡ at + 1 = w.place in
     omega arith
 
--- A value is its digits, behind a minus where it is below zero.
-pub wrote_plain : {o o' : List ℕ} {at p m : ℕ} {z y : ℤ} → y ≡ z → is_below y ≡ false → m ≡ nat_abs y → Wrote o at (decimal m) o' p
-    → Wrote o at (signed_text z) o' p
-wrote_plain {y} e h d w = wrote_as (ap decimal d ∙ (sym (text_above y h) ∙ ap signed_text e)) w
+-- A number is its digits before the last one and the last one, and a value its magnitude's digits, behind a minus where it is below zero: what `write_digits` and
+-- `write_signed` go by.
+pub ruleset digit_by_digit = (decimal_small, decimal_large, room_small, room_front, room_last, put_put, length-append)
 
-pub wrote_below : {o o' o'' : List ℕ} {at p q m : ℕ} {z y : ℤ} → y ≡ z → is_below y ≡ true → m ≡ nat_abs y → at + 20 ≤ length o
-    → Wrote o at (45 ∷ []) o' p → Wrote o' p (decimal m) o'' q → Wrote o at (signed_text z) o'' q
-wrote_below {y} e h d fits one other =
-    wrote_as (ap (λ (k : ℕ). 45 ∷ decimal k) d ∙ (sym (text_below y h) ∙ ap signed_text e)) (wrote_both (omega arith) one other)
+pub ruleset behind_a_minus = (to_z-of_z, below_test, text_above, text_below, room_plain, room_below, put_put)

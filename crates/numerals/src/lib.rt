@@ -130,6 +130,7 @@ fn digit(d: u64) -> u8
 }
 
 // The digits before the last one first, by the same function, where there are any.
+#[tactic(auto, using(crate::specs::Writing::digit_by_digit))]
 fn write_digits(out: &mut [u8], at: usize, v: u64) -> usize
     requires { at + length (decimal v) ≤ length out.old }
     ensures { Wrote out.old at (decimal v) out.new result }
@@ -151,6 +152,7 @@ pub fn write_number(out: &mut [u8], at: usize, v: u64) -> usize
 }
 
 // A signed 64-bit value in decimal, behind a minus where it is below zero.
+#[tactic(auto, using(crate::specs::Writing::behind_a_minus))]
 pub fn write_signed(out: &mut [u8], at: usize, v: i64) -> usize
     requires { at + 20 ≤ length out.old }
     ensures { Wrote out.old at (signed_text v) out.new result }
