@@ -2,13 +2,18 @@
 #![tactic(auto)]
 
 ghost use Rattle.std.specs.Prelude.{◌+◌, ◌*◌, ◌≤◌, ◌<◌, [], ◌∷◌, ◌≡◌, length, get_or, set};
+ghost use Rattle.std.specs.Option.{unwrap_or};
 ghost use Rattle.rules.specs.Partitions.{with_partition};
 ghost use Rattle.laws.specs.Cuts.{put};
-ghost use Rattle.tables.specs.Layout.{book_words, sums_words};
+ghost use Rattle.tables.specs.Layout.{book_words};
 ghost use Rattle.tables.specs.NewRow.{first_words, with_row};
-ghost use Rattle.tables.specs.Joined.{gap_book, gap_sums, joined_book, joined_sums};
+ghost use Rattle.tables.specs.Joined.{joined_book, joined_sums};
 ghost use Rattle.tables.specs.TakenOff.{off_book, off_sums};
 ghost use Rattle.tables.specs.Voted.{voted_book};
+
+use masks::Partition;
+use moves::{lay, move_within};
+use tables::{AMOUNTS, COUNTERS, Ledger, ROW, Transaction};
 
 // The amounts of waiting rows stand behind the values, one for each of 1,024 keys.
 const VALUES: usize = 1024;
@@ -18,144 +23,61 @@ const READS: usize = 8;
 
 const KEYS: usize = 16;
 
-// The rows from place i on move up by one, of n that wait.
-fn open_gap(book: &mut [u32], n: usize, i: usize)
-    requires { (book_words ≤ length book.old) × ((n < 32) × (i ≤ n)) }
-    ensures { book.new ≡ gap_book book.old n i }
+// A newcomer's row: the eight words, without votes, then the keys read, then the keys written.
+#[tactic(auto, unfolding(tables::specs::NewRow::with_row))]
+fn lay_row(book: &mut [u32], at: usize, rt: u32, t: Transaction<'_>)
+    requires fits { at + 24 ≤ length book.old }
+    requires few_reads { length t.reads.now ≤ 8 }
+    requires few_keys { length t.keys.now ≤ 8 }
+    ensures { book.new ≡ with_row book.old at (first_words t.entry.identity t.entry.set t.entry.st rt t.entry.reads.now t.entry.keys.now) t.entry.reads.now t.entry.keys.now }
 {
-    let from = tables::COUNTERS + tables::ROW * i;
-    moves::move_up(book, from, from + tables::ROW, tables::ROW * (n - i));
+    let reads = t.reads.len() as u32;
+    let keys = t.keys.len() as u32;
+    lay(book, at, &[t.identity, t.set, t.st, rt, 0, 0, reads, keys]);
+    lay(book, at + READS, t.reads);
+    lay(book, at + KEYS, t.keys);
 }
 
-// So do their amounts.
-fn open_sums_gap(sums: &mut [i64], n: usize, i: usize)
-    requires { (sums_words ≤ length sums.old) × ((n < 32) × (i ≤ n)) }
-    ensures { sums.new ≡ gap_sums sums.old n i }
-{
-    let from = VALUES + tables::AMOUNTS * i;
-    moves::move_sums_up(
-        sums,
-        from,
-        from + tables::AMOUNTS,
-        tables::AMOUNTS * (n - i),
-    );
-}
-
-// The eight words of a newcomer without votes.
-fn store_first(
-    book: &mut [u32],
-    at: usize,
-    identity: u32,
-    set: u32,
-    st: u32,
-    rt: u32,
-    reads: u32,
-    keys: u32,
-)
-    requires { at + 8 ≤ length book.old }
-    ensures { book.new ≡ put book.old at (identity ∷ set ∷ st ∷ rt ∷ 0 ∷ 0 ∷ reads ∷ keys ∷ []) }
-{
-    book[at] = identity;
-    book[at + 1] = set;
-    book[at + 2] = st;
-    book[at + 3] = rt;
-    book[at + 4] = 0;
-    book[at + 5] = 0;
-    book[at + 6] = reads;
-    book[at + 7] = keys;
-}
-
-// A newcomer's row: the eight words, the keys read, the keys written.
-fn lay_row(
-    book: &mut [u32],
-    at: usize,
-    identity: u32,
-    set: u32,
-    st: u32,
-    rt: u32,
-    reads: &[u32],
-    keys: &[u32],
-)
-    requires { (at + 24 ≤ length book.old) × ((length reads.now ≤ 8) × (length keys.now ≤ 8)) }
-    ensures { book.new ≡ with_row book.old at (first_words identity set st rt reads.now keys.now) reads.now keys.now }
-{
-    store_first(
-        book,
-        at,
-        identity,
-        set,
-        st,
-        rt,
-        reads.len() as u32,
-        keys.len() as u32,
-    );
-    moves::lay(book, at + READS, reads);
-    moves::lay(book, at + KEYS, keys);
-}
-
-// A newcomer joins the n that wait, at place i.
-pub fn join(
-    book: &mut [u32],
-    sums: &mut [i64],
-    n: usize,
-    i: usize,
-    identity: u32,
-    set: u32,
-    st: u32,
-    rt: u32,
-    reads: &[u32],
-    keys: &[u32],
-    amounts: &[i64],
-)
-    requires book_words_in_bounds { book_words ≤ length book.old }
-    requires sums_words_in_bounds { sums_words ≤ length sums.old }
+// A newcomer joins the n that wait, at place i: the rows and amounts from there on move up by one.
+#[tactic(auto, using(crate::specs::Stores::row_joined, crate::specs::Stores::sums_joined))]
+pub fn join(ledger: &mut Ledger<'_>, n: usize, i: usize, rt: u32, t: Transaction<'_>)
     requires n_bound { n < 32 }
     requires i_le_n { i ≤ n }
-    requires reads_len_bound { length reads.now ≤ 8 }
-    requires keys_len_bound { length keys.now ≤ 8 }
-    requires amounts_len { length amounts.now ≡ length keys.now }
-    ensures book_after { book.new ≡ joined_book book.old n i (first_words identity set st rt reads.now keys.now) reads.now keys.now }
-    ensures sums_after { sums.new ≡ joined_sums sums.old n i amounts.now }
+    requires reads_len_bound { length t.reads.now ≤ 8 }
+    requires keys_len_bound { length t.keys.now ≤ 8 }
+    requires amounts_len { length t.amounts.now ≡ length t.keys.now }
+    ensures same_book { ledger.new.book.ghost_name ≡ ledger.old.book.ghost_name }
+    ensures same_sums { ledger.new.sums.ghost_name ≡ ledger.old.sums.ghost_name }
+    ensures book_after { ledger.new.book.now ≡ joined_book ledger.old.book.now n i (first_words t.entry.identity t.entry.set t.entry.st rt t.entry.reads.now t.entry.keys.now) t.entry.reads.now t.entry.keys.now }
+    ensures sums_after { ledger.new.sums.now ≡ joined_sums ledger.old.sums.now n i t.entry.amounts.now }
 {
-    open_gap(book, n, i);
-    lay_row(
-        book,
-        tables::COUNTERS + tables::ROW * i,
-        identity,
-        set,
-        st,
-        rt,
-        reads,
-        keys,
-    );
-    open_sums_gap(sums, n, i);
-    moves::lay_sums(sums, VALUES + tables::AMOUNTS * i, amounts);
+    let row = COUNTERS + ROW * i;
+    let amounts = VALUES + AMOUNTS * i;
+    move_within(ledger.book, row, row + ROW, ROW * (n - i));
+    lay_row(ledger.book, row, rt, t);
+    move_within(ledger.sums, amounts, amounts + AMOUNTS, AMOUNTS * (n - i));
+    lay(ledger.sums, amounts, t.amounts);
 }
 
 // The head goes, and the n rows behind it move down by one.
-pub fn take_off(book: &mut [u32], sums: &mut [i64], n: usize)
-    requires book_words_in_bounds { book_words ≤ length book.old }
-    requires sums_words_in_bounds { sums_words ≤ length sums.old }
+#[tactic(auto, unfolding(tables::specs::TakenOff::off_book, tables::specs::TakenOff::off_sums))]
+pub fn take_off(ledger: &mut Ledger<'_>, n: usize)
     requires n_bound { n < 32 }
-    ensures book_after { book.new ≡ off_book book.old n }
-    ensures sums_after { sums.new ≡ off_sums sums.old n }
+    ensures same_book { ledger.new.book.ghost_name ≡ ledger.old.book.ghost_name }
+    ensures same_sums { ledger.new.sums.ghost_name ≡ ledger.old.sums.ghost_name }
+    ensures book_after { ledger.new.book.now ≡ off_book ledger.old.book.now n }
+    ensures sums_after { ledger.new.sums.now ≡ off_sums ledger.old.sums.now n }
 {
-    moves::move_down(
-        book,
-        tables::COUNTERS + tables::ROW,
-        tables::COUNTERS,
-        tables::ROW * n,
-    );
-    moves::move_sums_down(sums, VALUES + tables::AMOUNTS, VALUES, tables::AMOUNTS * n);
+    move_within(ledger.book, COUNTERS + ROW, COUNTERS, ROW * n);
+    move_within(ledger.sums, VALUES + AMOUNTS, VALUES, AMOUNTS * n);
 }
 
 // A finish entry behind the m that are written: identity, and version or 0 for an abort.
-pub fn tell(fin: &mut [u32], m: usize, identity: u32, outcome: u32)
-    requires { 2 * m + 2 ≤ length fin.old }
-    ensures { fin.new ≡ put fin.old (2 * m) (identity ∷ outcome ∷ []) }
+pub fn tell(finishes: &mut [u32], m: usize, identity: u32, version: Option<u32>)
+    requires { 2 * m + 2 ≤ length finishes.old }
+    ensures { finishes.new ≡ put finishes.old (2 * m) (identity ∷ unwrap_or version 0 ∷ []) }
 {
-    fin[2 * m] = identity;
-    fin[2 * m + 1] = outcome;
+    lay(finishes, 2 * m, &[identity, version.unwrap_or(0)]);
 }
 
 // The counters that an event changes: SC, DC, k, and how many wait.
@@ -163,30 +85,28 @@ pub fn store_counters(book: &mut [u32], sc: u32, dc: u32, k: u32, waiting: u32)
     requires { book_words ≤ length book.old }
     ensures { book.new ≡ put book.old 2 (sc ∷ dc ∷ k ∷ waiting ∷ []) }
 {
-    book[2] = sc;
-    book[3] = dc;
-    book[4] = k;
-    book[5] = waiting;
+    lay(book, 2, &[sc, dc, k, waiting]);
 }
 
 // Partition p put into the set at a place.
-fn add_voter(book: &mut [u32], at: usize, p: u32)
-    requires { (at < length book.old) × ((p < 8) × (get_or book.old at 0 < 256)) }
-    ensures { book.new ≡ set book.old at (with_partition p (get_or book.old at 0)) }
+fn add_voter(book: &mut [u32], at: usize, p: Partition)
+    requires in_bounds { at < length book.old }
+    requires is_byte { get_or book.old at 0 < 256 }
+    ensures { book.new ≡ set book.old at (with_partition p.number (get_or book.old at 0)) }
 {
-    book[at] = masks::with(book[at], p);
+    book[at] = u32::from(masks::with(book[at] as u8, p));
 }
 
 // "It is stored." Those who said yes stand in word 4 of the row, those who said no in word 5.
-pub fn store_vote(book: &mut [u32], i: usize, p: u32, yes: bool)
+#[tactic(auto, using(crate::specs::Stores::aye_stored, crate::specs::Stores::nay_stored))]
+pub fn store_vote(book: &mut [u32], i: usize, p: Partition, yes: bool)
     requires book_words_in_bounds { book_words ≤ length book.old }
     requires i_bound { i < 32 }
-    requires p_bound { p < 8 }
-    requires i_bound_2 { get_or book.old (6 + 24 * i + 4) 0 < 256 }
-    requires i_bound_3 { get_or book.old (6 + 24 * i + 5) 0 < 256 }
-    ensures { book.new ≡ voted_book book.old i p yes }
+    requires ayes_byte { get_or book.old (6 + 24 * i + 4) 0 < 256 }
+    requires nays_byte { get_or book.old (6 + 24 * i + 5) 0 < 256 }
+    ensures { book.new ≡ voted_book book.old i p.number yes }
 {
-    let row = tables::COUNTERS + tables::ROW * i;
+    let row = COUNTERS + ROW * i;
     if yes {
         add_voter(book, row + 4, p); // the ayes
     } else {
