@@ -1,29 +1,33 @@
 -- The rules' soundness of the state that the tables hold, by tests on the tables alone: of the counters, of the kept rows, of the identities, of the
 -- waiting rows. That the kept commits number the smaller of SC and 64, and the values 1,024, holds of any tables that are long enough.
-use Rattle.std.specs.Prelude.{ℕ, ◌-◌, ◌≤◌, min, Bool, true, false, not, List, ◌≡◌, ℤ, length}
+use Rattle.std.specs.Prelude.{ℕ, ◌-◌, ◌≤◌, ◌<◌, min, Bool, true, ◌&&◌, List, [], ◌∷◌, ◌≡◌, refl, ℤ, length}
 use Rattle.std.proofs.Math.Path.{sym, ap}
 use Rattle.std.proofs.Common.{◌∙◌}
-use borrow.Author.Tests.{not-false}
 use native.Mathlib.Omega.{arith}
 use Rattle.std.proofs.Math.ListN.{get_or}
+use Rattle.std.proofs.lemmas.Bool.{false_from_ne_true}
 use Rattle.rules.specs.Lists.{all}
-use Rattle.rules.specs.Sizes.{keys, most_kept}
+use Rattle.rules.specs.Sizes.{keys, most_partitions, most_waiting, most_kept, most_dc}
 use Rattle.rules.specs.Ledger.{Entry}
 use Rattle.rules.specs.Soundness.{good_commit, good_entry, different, identities, sound}
+use Rattle.laws.specs.Tests.{split, never}
 use Rattle.laws.specs.Cuts.{length_cut}
 use Rattle.laws.specs.Tabs.{tab, length_tab, tab_same, map_tab}
-use Rattle.claims.specs.SoundParts.{Sound, sound_facts, sound_test}
-use Rattle.tables.specs.Layout.{sums_words, waiting_row, partitions_at, own_at, sc_at, dc_at, k_at, waiting_at}
+use Rattle.claims.specs.SoundParts.{each, together, Sound, sound_facts, sound_test}
+use Rattle.tables.specs.Layout.{sums_words, partitions_at, own_at, sc_at, dc_at, k_at, waiting_at}
 use Rattle.tables.specs.Rows.{row_transaction, row_entry}
 use Rattle.tables.specs.View.{waiting_words, kept_words, entry_at, commit_at, waiting_view, length_waiting, kept_view, values_view, books_view, clock_view, view}
 use Rattle.tables.specs.Tested.{all_tab_same}
-use Rattle.checking.specs.Verdicts.{fails, decides}
-use Rattle.checking.specs.GoodRows.{first_word, sets_good, commit_row, row_good, entry_row}
+use Rattle.checking.specs.GoodRows.{sets_good, commit_row, row_good, entry_row}
 use Rattle.checking.specs.Counters.{Counters, counters_fit, counters_facts, counters_test}
+
+-- Two tests that hold of the same things are one.
+same_test : (a b : Bool) → (a ≡ true → b ≡ true) → (b ≡ true → a ≡ true) → a ≡ b
+same_test a b there back = split b (λ q. back q ∙ sym q) (λ q. false_from_ne_true a (λ p. never b (there p) q) ∙ sym q)
 
 -- The identity in a waiting row; the row of the newest kept commit, of the one before it, and so on.
 unfoldable pub identity_at : List ℕ → ℕ → ℕ
-identity_at book i = get_or book (waiting_row i) 0
+identity_at book i = get_or (waiting_words book i) 0 0
 
 unfoldable pub newest_words : List ℕ → ℕ → ℕ → List ℕ
 newest_words book sc j = kept_words book (sc - j)
@@ -42,10 +46,22 @@ identities_pass n book = different (tab n (identity_at book))
 unfoldable pub waiting_pass : ℕ → ℕ → ℕ → ℕ → List ℕ → Bool
 waiting_pass partitions own dc n book = all (row_good partitions own dc) (tab n (waiting_words book))
 
--- The number of kept rows, as the walk has it.
-pub kept_number : (kept sc : ℕ) (book : List ℕ) → kept ≡ min sc most_kept → all sets_good (tab kept (newest_words book sc)) ≡ kept_pass sc book
-unfolding kept_pass
-kept_number kept sc book e = ap (λ (n : ℕ). all sets_good (tab n (newest_words book sc))) e
+-- What the counters' part alone bounds.
+module _ (book : List ℕ) (fit : counters_pass book ≡ true) where
+  counters : Counters (get_or book partitions_at 0) (get_or book own_at 0) (get_or book sc_at 0) (get_or book dc_at 0) (get_or book k_at 0) (get_or book waiting_at 0)
+  counters = counters_facts _ _ _ _ _ _ fit
+
+  pub few_partitions : get_or book partitions_at 0 ≤ most_partitions
+  few_partitions = counters.sizes.few_partitions
+
+  pub own_below_8 : get_or book own_at 0 < most_partitions
+  own_below_8 = let sizes = counters.sizes in omega arith
+
+  pub dc_fits : get_or book dc_at 0 ≤ most_dc
+  dc_fits = counters.dc_fits
+
+  pub few_waiting : get_or book waiting_at 0 ≤ most_waiting
+  few_waiting = counters.list_fits
 
 module _ (book : List ℕ) (sums : List ℤ) where
   -- The rules' tests of the lists that the tables hold are those tests.
@@ -56,8 +72,8 @@ module _ (book : List ℕ) (sums : List ℤ) where
       (λ j. commit_row (kept_words book (sc - j)) _)
 
   identity_same : (i : ℕ) → (entry_at book sums i).transaction.identity ≡ identity_at book i
-  unfolding entry_at row_entry row_transaction waiting_words identity_at
-  identity_same i = first_word book (waiting_row i)
+  unfolding entry_at row_entry row_transaction identity_at
+  identity_same i = refl
 
   identities_same : (n : ℕ) → different (identities (waiting_view n book sums)) ≡ identities_pass n book
   unfolding waiting_view identities_pass
@@ -96,32 +112,33 @@ module _ (book : List ℕ) (sums : List ℤ) where
         let sum = state_facts.sum_fits in
         record { sizes = state_facts.sizes; dc_fits = state_facts.dc_fits; list_fits = omega arith; sum_fits = omega arith }
 
-  -- Each way out of the whole test, by the answer that led there.
-  pub counters_fail : {answer : Bool} → answer ≡ counters_pass book → not answer ≡ true → false ≡ sound (view book sums)
-  counters_fail e failed = fails e failed (λ q. counters_test _ _ _ _ _ _ (counters_hold q))
-
-  pub kept_fail : {answer : Bool} → answer ≡ kept_pass (get_or book sc_at 0) book → not answer ≡ true → false ≡ sound (view book sums)
-  unfolding books_view
-  kept_fail e failed = fails e failed (λ q. sym (kept_same (get_or book sc_at 0)) ∙ (state_facts q).kept_good)
-
-  pub identities_fail : {answer : Bool} → answer ≡ identities_pass (get_or book waiting_at 0) book → not answer ≡ true → false ≡ sound (view book sums)
-  identities_fail e failed = fails e failed (λ q. sym (identities_same (get_or book waiting_at 0)) ∙ (state_facts q).apart)
-
-  pub sound_decided : {counters kept apart answer : Bool} → sums_words ≤ length sums
-      → counters ≡ counters_pass book → not counters ≡ false
-      → kept ≡ kept_pass (get_or book sc_at 0) book → not kept ≡ false
-      → apart ≡ identities_pass (get_or book waiting_at 0) book → not apart ≡ false
-      → answer ≡ waiting_pass (get_or book partitions_at 0) (get_or book own_at 0) (get_or book dc_at 0) (get_or book waiting_at 0) book
-      → answer ≡ sound (view book sums)
+  -- The whole test is those four, one after the other.
+  pub sound_tests : sums_words ≤ length sums
+      → sound (view book sums)
+      ≡ (counters_pass book
+      && kept_pass (get_or book sc_at 0) book
+      && identities_pass (get_or book waiting_at 0) book
+      && waiting_pass (get_or book partitions_at 0) (get_or book own_at 0) (get_or book dc_at 0) (get_or book waiting_at 0) book)
   unfolding view clock_view books_view
-  sound_decided {counters} {kept} {apart} long counters_say counters_pass kept_says kept_passes apart_says apart_passes says =
+  sound_tests long =
       let n = get_or book waiting_at 0 in
-      let fit = counters_facts _ _ _ _ _ _ (sym counters_say ∙ not-false counters counters_pass) in
+      let kept = kept_pass (get_or book sc_at 0) book in
+      let apart = identities_pass n book in
+      let waiting = waiting_pass (get_or book partitions_at 0) (get_or book own_at 0) (get_or book dc_at 0) n book in
+      same_test (sound (view book sums)) (counters_pass book && kept && apart && waiting)
+      (λ q. together (counters_pass book) (kept ∷ apart ∷ waiting ∷ []) (
+        counters_test _ _ _ _ _ _ (counters_hold q),
+        (
+          sym (kept_same (get_or book sc_at 0)) ∙ (state_facts q).kept_good,
+          (sym (identities_same n) ∙ (state_facts q).apart, sym (waiting_same _ _ _ n) ∙ (state_facts q).entries_good),
+        ),
+      ))
+      (λ q. let parts = each (counters_pass book) (kept ∷ apart ∷ waiting ∷ []) q in
+      let fit = counters_facts _ _ _ _ _ _ parts.0 in
       let number = length_waiting n book sums in
       let list = fit.list_fits in
       let sum = fit.sum_fits in
-      decides says (λ q. sym (waiting_same _ _ _ n) ∙ (state_facts q).entries_good)
-      (λ q. sound_test (view book sums)
+      sound_test (view book sums)
       record {
         sizes = fit.sizes;
         dc_fits = fit.dc_fits;
@@ -129,7 +146,10 @@ module _ (book : List ℕ) (sums : List ℤ) where
         values_fit = values_count_holds long;
         kept_number = kept_count_holds (get_or book sc_at 0);
         sum_fits = omega arith;
-        kept_good = kept_same (get_or book sc_at 0) ∙ (sym kept_says ∙ not-false kept kept_passes);
-        apart = identities_same n ∙ (sym apart_says ∙ not-false apart apart_passes);
-        entries_good = waiting_same _ _ _ n ∙ q;
+        kept_good = kept_same (get_or book sc_at 0) ∙ parts.1.0;
+        apart = identities_same n ∙ parts.1.1.0;
+        entries_good = waiting_same _ _ _ n ∙ parts.1.1.1;
       })
+
+-- What the check of two tables stands on: the four tests are the whole, and the first of them bounds what the others take.
+pub ruleset sound_laws = (sound_tests, few_partitions, own_below_8, dc_fits, few_waiting)

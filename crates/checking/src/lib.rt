@@ -1,20 +1,20 @@
 // Is the state that two lent tables hold sound? Any words may stand in them: sizes are tested before the rows that they speak of are looked at.
 #![tactic(auto)]
 
-ghost use Rattle.std.specs.Prelude.{◌+◌, ◌≤◌, ◌<◌, min, ◌≡◌, length};
+ghost use Rattle.std.specs.Prelude.{◌≤◌, ◌<◌, ◌≡◌, length, get_or};
 ghost use Rattle.rules.specs.Lists.{member};
 ghost use Rattle.rules.specs.Sizes.{most_dc};
 ghost use Rattle.rules.specs.Ledger.{sizes_fit};
 ghost use Rattle.rules.specs.Soundness.{sound};
 ghost use Rattle.laws.specs.Cuts.{cut};
-ghost use Rattle.tables.specs.Layout.{book_words, sums_words};
-ghost use Rattle.tables.specs.View.{view};
+ghost use Rattle.tables.specs.Layout.{sums_words};
+ghost use Rattle.tables.specs.View.{waiting_words, kept_words, view};
 ghost use Rattle.checking.specs.Walks.{rest};
 ghost use Rattle.checking.specs.GoodRows.{part_good, sets_good, row_good};
-ghost use Rattle.checking.specs.Counters.{counters_fit};
-ghost use Rattle.checking.specs.Whole.{identity_at, kept_pass, identities_pass, waiting_pass};
+ghost use Rattle.checking.specs.Whole.{identity_at, counters_pass, kept_pass, identities_pass, waiting_pass};
 
-use tables::{COUNTERS, ROW};
+use masks::Partition;
+use tables::{Book, VERSIONS};
 
 // 01, "The ledger's sizes".
 const MOST_PARTITIONS: u32 = 8;
@@ -25,191 +25,159 @@ const MOST_WAITING: u32 = 32;
 
 const MOST_K: u32 = 31;
 
-const MOST_KEPT: u32 = 64;
-
 const MOST_DC: u32 = 4000000000;
 
-// The first kept row, behind the counters and 32 waiting rows.
-const KEPT: usize = 774;
+// What an opened engine's entries are held to: how many partitions there are, which is our own, and how far DC is.
+#[derive(Clone, Copy)]
+struct Opened {
+    partitions: u32,
+    own: Partition,
+    dc: u32,
+    ghost few: { partitions ≤ 8 },
+    ghost dc_fits: { dc ≤ most_dc },
+}
+
+// A row of 24 words, whatever stands in them.
+#[derive(Clone, Copy)]
+struct AnyRow<'a> {
+    words: &'a [u32],
+    ghost whole: { length words.now ≡ 24 },
+}
 
 // "Partitions | 1 to 8", our own one of them, "Threshold k | 0 to 31"
+#[tactic(auto, unfolding(rules::specs::Ledger::sizes_fit))]
 pub fn sizes_fit(partitions: u32, own: u32, k: u32) -> bool
     ensures { result ≡ sizes_fit partitions own k }
 {
-    if partitions < 1 {
-        return false;
-    }
-    if MOST_PARTITIONS < partitions {
-        return false;
-    }
-    if partitions <= own {
-        return false;
-    }
-    k <= MOST_K
+    (1..=MOST_PARTITIONS).contains(&partitions) && own < partitions && k <= MOST_K
 }
 
 // "sizes fit the table", "SC plus waiting is at most DC"
-fn counters_fit(partitions: u32, own: u32, sc: u32, dc: u32, k: u32, n: u32) -> bool
-    ensures { result ≡ counters_fit partitions own sc dc k n }
+#[tactic(auto, unfolding(crate::specs::Counters::counters_fit))]
+fn counters_fit(book: Book<'_>) -> bool
+    ensures { result ≡ counters_pass book.entry.words.now }
 {
-    if !sizes_fit(partitions, own, k) {
-        return false;
-    }
-    if MOST_DC < dc {
-        return false;
-    }
-    if MOST_WAITING < n {
-        return false;
-    }
-    if dc < n {
-        return false;
-    }
-    sc <= dc - n // SC plus waiting may not fit a word
+    let dc = book.dc();
+    let waiting = book.waiting();
+    sizes_fit(book.partitions(), book.own(), book.k())
+        && dc <= MOST_DC
+        && waiting <= MOST_WAITING
+        && u64::from(book.sc()) + u64::from(waiting) <= u64::from(dc)
 }
 
-// "every stored set is within its limits and ascending", of n keys that stand in the table from a place on. Where they are too many, none is looked at.
-fn part_good(book: &[u32], at: usize, n: u32) -> bool
-    requires { at + 8 ≤ length book.now }
-    ensures { result ≡ part_good n (cut at n book.now) }
-{
-    if MOST_KEYS < n {
-        return false;
+impl<'a> AnyRow<'a> {
+    // Row i of the waiting list.
+    #[tactic(auto, using(tables::specs::Good::waiting_whole))]
+    fn waiting(book: Book<'a>, i: usize) -> AnyRow<'a>
+        requires { i < 32 }
+        ensures { result.words.now ≡ waiting_words book.entry.words.now i }
+    {
+        AnyRow {
+            words: book.waiting_row(i),
+        }
     }
-    let behind = at + n as usize;
-    !keys::is_bad(&book[at..behind])
-}
 
-// The two sets of a row.
-fn row_sets_good(book: &[u32], o: usize) -> bool
-    requires { o + 24 ≤ length book.now }
-    ensures { result ≡ sets_good (cut o 24 book.now) }
-{
-    if !part_good(book, o + 8, book[o + 6]) {
-        return false;
+    // The row that keeps a version.
+    #[tactic(auto, using(tables::specs::Good::kept_whole))]
+    fn kept(book: Book<'a>, version: u32) -> AnyRow<'a>
+        ensures { result.words.now ≡ kept_words book.entry.words.now version }
+    {
+        AnyRow {
+            words: book.kept_row(version),
+        }
     }
-    part_good(book, o + 16, book[o + 7])
-}
 
-// Of one waiting row: its sets are good, its identity is nonzero, its partition set holds our own and none beyond the number opened, stored votes come
-// from other involved partitions, and its rt is at most DC + 31.
-fn row_entry_good(book: &[u32], o: usize, partitions: u32, own: u32, dc: u32) -> bool
-    requires o_in_bounds { o + 24 ≤ length book.now }
-    requires partitions_bound { (partitions ≤ 8) × (own < 8) × (dc ≤ most_dc) }
-    ensures { result ≡ row_good partitions own dc (cut o 24 book.now) }
-{
-    if !row_sets_good(book, o) {
-        return false;
+    // The identity of a waiting row.
+    fn identity(self) -> u32
+        ensures { result ≡ get_or self.entry.words.now 0 0 }
+    {
+        self.words[0]
     }
-    if book[o] == 0 {
-        return false;
+
+    // "every stored set is within its limits and ascending", of so many keys that stand in the row from a place on. Where they are too many, none is looked at.
+    #[tactic(auto, using(crate::specs::GoodRows::few_keys), unfolding(crate::specs::GoodRows::part_good))]
+    fn is_part_good(self, at: usize, count: u32) -> bool
+        requires { at ≤ 16 }
+        ensures { result ≡ part_good count (cut at count self.entry.words.now) }
+    {
+        count <= MOST_KEYS && !keys::is_bad(&self.words[at..at + count as usize])
     }
-    let set = book[o + 1];
-    if masks::is_bad_set(set, partitions, own) {
-        return false;
+
+    // The two sets of a row: the keys read, and the keys written.
+    #[tactic(auto, using(crate::specs::GoodRows::sets_parts))]
+    fn are_sets_good(self) -> bool
+        ensures { result ≡ sets_good self.entry.words.now }
+    {
+        self.is_part_good(8, self.words[6]) && self.is_part_good(16, self.words[7])
     }
-    if !masks::are_from_others(set, own, book[o + 4]) {
-        return false;
+
+    // Of one waiting row: its sets are good, its identity is nonzero, its partition set holds our own and none beyond the number opened, stored votes come
+    // from other involved partitions, and its rt is at most DC + 31.
+    #[tactic(auto, using(crate::specs::GoodRows::row_tests, crate::specs::GoodRows::set_byte))]
+    fn is_entry_good(self, opened: Opened) -> bool
+        ensures { result ≡ row_good opened.partitions opened.own.number opened.dc self.entry.words.now }
+    {
+        let set = self.words[1];
+        let rt = self.words[3];
+        let ayes = self.words[4];
+        let nays = self.words[5];
+        self.are_sets_good()
+            && self.identity() != 0
+            && !masks::is_bad_set(set, opened.partitions, opened.own.number)
+            && masks::are_from_others(set as u8, opened.own, ayes)
+            && masks::are_from_others(set as u8, opened.own, nays)
+            && rt <= opened.dc + MOST_K
     }
-    if !masks::are_from_others(set, own, book[o + 5]) {
-        return false;
-    }
-    book[o + 3] <= dc + MOST_K
 }
 
 // Every waiting row.
-fn waiting_good(book: &[u32], n: u32, partitions: u32, own: u32, dc: u32) -> bool
-    requires book_words_in_bounds { (book_words ≤ length book.now) × (n ≤ 32) }
-    requires partitions_bound { (partitions ≤ 8) × (own < 8) × (dc ≤ most_dc) }
-    ensures { result ≡ waiting_pass partitions own dc n book.now }
+fn waiting_good(book: Book<'_>, count: usize, opened: Opened) -> bool
+    requires { count ≤ 32 }
+    ensures { result ≡ waiting_pass opened.partitions opened.own.number opened.dc count book.entry.words.now }
 {
-    let waiting = n as usize;
-    let mut i: usize = 0;
-    while i < waiting {
-        if !row_entry_good(book, COUNTERS + ROW * i, partitions, own, dc) {
-            return false;
-        }
-        i += 1;
-    }
-    true
+    (0..count).all(|i| AnyRow::waiting(book, i).is_entry_good(opened))
 }
 
-// "the smaller of SC and 64"
-fn how_many_kept(sc: u32) -> u32
-    ensures { result ≡ min sc 64 }
+// Every kept row, from the newest version on: as many as "the smaller of SC and 64".
+fn kept_good(book: Book<'_>, sc: u32) -> bool
+    ensures { result ≡ kept_pass sc book.entry.words.now }
 {
-    if sc < MOST_KEPT {
-        return sc;
-    }
-    MOST_KEPT
-}
-
-// Every kept row, from the newest version on: version v stands in row v % 64.
-fn kept_good(book: &[u32], sc: u32) -> bool
-    requires { book_words ≤ length book.now }
-    ensures { result ≡ kept_pass sc book.now }
-{
-    let kept = how_many_kept(sc);
-    let mut j: u32 = 0;
-    while j < kept {
-        let row = ((sc - j) % 64) as usize;
-        if !row_sets_good(book, KEPT + ROW * row) {
-            return false;
-        }
-        j += 1;
-    }
-    true
+    (0..sc.min(VERSIONS)).all(|j| AnyRow::kept(book, sc - j).are_sets_good())
 }
 
 // An identity stands in a waiting row from a place on.
-fn is_among(book: &[u32], id: u32, from: usize, n: usize) -> bool
-    requires { (book_words ≤ length book.now) × (from ≤ n) × (n ≤ 32) }
-    ensures { result ≡ member id (rest n (identity_at book.now) from) }
+fn is_among(book: Book<'_>, identity: u32, from: usize, count: usize) -> bool
+    requires { count ≤ 32 }
+    ensures { result ≡ member identity (rest count (identity_at book.entry.words.now) from) }
 {
-    let mut i = from;
-    while i < n {
-        if id == book[COUNTERS + ROW * i] {
-            return true;
-        }
-        i += 1;
-    }
-    false
+    (from..count).any(|i| identity == AnyRow::waiting(book, i).identity())
 }
 
 // "waiting identities are .. different": none stands in a later row too.
-fn identities_differ(book: &[u32], n: u32) -> bool
-    requires { (book_words ≤ length book.now) × (n ≤ 32) }
-    ensures { result ≡ identities_pass n book.now }
+fn identities_differ(book: Book<'_>, count: usize) -> bool
+    requires { count ≤ 32 }
+    ensures { result ≡ identities_pass count book.entry.words.now }
 {
-    let waiting = n as usize;
-    let mut i: usize = 0;
-    while i < waiting {
-        if is_among(book, book[COUNTERS + ROW * i], i + 1, waiting) {
-            return false;
-        }
-        i += 1;
-    }
-    true
+    (0..count).all(|i| !is_among(book, AnyRow::waiting(book, i).identity(), i + 1, count))
 }
 
 // "A state is sound when", of the state that the tables hold. Amounts never matter to it.
-pub fn is_sound(book: &[u32], sums: &[i64]) -> bool
-    requires book_words_in_bounds { book_words ≤ length book.now }
-    requires sums_words_in_bounds { sums_words ≤ length sums.now }
-    ensures { result ≡ sound (view book.now sums.now) }
+#[tactic(auto, using(crate::specs::Whole::sound_laws))]
+pub fn is_sound(book: Book<'_>, sums: &[i64]) -> bool
+    requires { sums_words ≤ length sums.now }
+    ensures { result ≡ sound (view book.entry.words.now sums.now) }
 {
-    let partitions = book[0];
-    let own = book[1];
-    let sc = book[2];
-    let dc = book[3];
-    let n = book[5];
-    if !counters_fit(partitions, own, sc, dc, book[4], n) {
+    // Counters that fit bound all that follows, so they are tested before anything is built on them.
+    if !counters_fit(book) {
         return false;
     }
-    if !kept_good(book, sc) {
-        return false;
-    }
-    if !identities_differ(book, n) {
-        return false;
-    }
-    waiting_good(book, n, partitions, own, dc)
+    let count = book.waiting() as usize;
+    let opened = Opened {
+        partitions: book.partitions(),
+        own: Partition { number: book.own() },
+        dc: book.dc(),
+    };
+    kept_good(book, book.sc())
+        && identities_differ(book, count)
+        && waiting_good(book, count, opened)
 }

@@ -1,18 +1,17 @@
-use Rattle.checking.specs.Walks.{differ_start, differ_next, differ_fails, differ_end}
+-- `checking::identities_differ` meets its contract: the walk over the numbers below the count asks of each identity that it is not among those behind it.
+use Rattle.std.proofs.Common.{rules, ◌∙◌, ◌+◌, not, arith}
+use borrow.Author.Tests.{tests}
+use Rattle.std.specs.Prelude.{refl}
+use Rattle.std.proofs.lemmas.Iterator.{YieldsList-from_range}
+use Rattle.std.proofs.lemmas.Iterator.Search.{all_from_yields_List}
+use Rattle.rules.specs.Lists.{member}
+use Rattle.checking.specs.Walks.{rest, different_all}
 use Rattle.checking.specs.Whole.{identity_at, identities_pass}
 use Rattle.checking.proofs.identities_differ.Goals as goal
 
-pub loop-i-init : goal.loop-i-init
-loop-i-init c = differ_start _ _
-
-pub returns-then-is_among : goal.returns-then-is_among
-unfolding identities_pass identity_at
-returns-then-is_among c = differ_fails c.loop-i.invariant c.loop-i-test.true c.is_among.ensures c.if-is_among.true
-
-pub loop-i-preserved : goal.loop-i-preserved
-unfolding identity_at
-loop-i-preserved c = differ_next c.loop-i.invariant c.loop-i-test.true c.is_among.ensures c.if-is_among.false
-
 pub returns : goal.returns
-unfolding identities_pass
-returns c = differ_end c.loop-i.invariant c.loop-i-test.false
+unfolding identities_pass identity_at
+returns c =
+    all_from_yields_List (λ i. not (member (identity_at c.args.book.words.now i) (rest c.args.count (identity_at c.args.book.words.now) (i + 1)))) _ _ _ c.all.ensures.ran
+    (YieldsList-from_range 0 c.args.count c.args.count refl (omega arith)) (λ x b q k. search (rules, tests))
+    ∙ different_all (identity_at c.args.book.words.now) c.args.count

@@ -1,17 +1,16 @@
-use Rattle.checking.specs.Walks.{among_start, among_next, among_found, among_end}
+-- `checking::is_among` meets its contract: the walk over the numbers from a place on looks for the identity in each row.
+use Rattle.std.proofs.Common.{rules, ◌∙◌, ◌-◌}
+use borrow.Author.Tests.{tests}
+use Rattle.std.specs.Prelude.{refl, eqb}
+use Rattle.std.proofs.lemmas.Iterator.{YieldsList-from_range}
+use Rattle.std.proofs.lemmas.Iterator.Search.{any_from_yields_List}
+use Rattle.checking.specs.Walks.{any_rest}
 use Rattle.checking.specs.Whole.{identity_at}
 use Rattle.checking.proofs.is_among.Goals as goal
 
-pub loop-i-init : goal.loop-i-init
-loop-i-init c = among_start _ _ _ _ c.requires.1
-
-pub returns-then-id-book : goal.returns-then-id-book
-unfolding identity_at
-returns-then-id-book c = among_found c.loop-i.invariant c.loop-i-test.true c.if-id-book.true
-
-pub loop-i-preserved : goal.loop-i-preserved
-unfolding identity_at
-loop-i-preserved c = among_next c.loop-i.invariant c.loop-i-test.true c.if-id-book.false
-
 pub returns : goal.returns
-returns c = among_end c.loop-i.invariant c.loop-i-test.false
+unfolding identity_at
+returns c =
+    any_from_yields_List (λ i. eqb c.args.identity (identity_at c.args.book.words.now i)) _ _ _ c.any.ensures.ran
+    (YieldsList-from_range c.args.from c.args.count (c.args.count - c.args.from) refl refl) (λ x b q k. search (rules, tests))
+    ∙ any_rest (eqb c.args.identity) (identity_at c.args.book.words.now) c.args.count c.args.from

@@ -1,22 +1,17 @@
-use Rattle.std.proofs.Common.{ap, not}
-use mathlib.Core.Path.{◌∙◌}
-use Rattle.tables.specs.View.{kept_words}
-use Rattle.checking.specs.Walks.{passing_start, passing_next, passing_fails, passing_end}
-use Rattle.checking.specs.Whole.{newest_words, kept_number}
+-- `checking::kept_good` meets its contract: the walk over as many numbers as rows are kept asks of each row what the rules ask of its commit.
+use Rattle.std.proofs.Common.{rules, ◌∙◌, arith}
+use borrow.Author.Tests.{tests}
+use Rattle.std.specs.Prelude.{refl, min}
+use Rattle.std.proofs.lemmas.Iterator.{YieldsList-from_range}
+use Rattle.std.proofs.lemmas.Iterator.Search.{all_from_yields_List}
+use Rattle.laws.specs.Walks.{all_range}
+use Rattle.checking.specs.GoodRows.{sets_good}
+use Rattle.checking.specs.Whole.{newest_words, kept_pass}
 use Rattle.checking.proofs.kept_good.Goals as goal
 
-pub loop-j-init : goal.loop-j-init
-loop-j-init c = passing_start _ _ _
-
-pub returns-then-not-row_sets_good : goal.returns-then-not-row_sets_good
-unfolding newest_words kept_words
-returns-then-not-row_sets_good c =
-    passing_fails c.loop-j.invariant c.loop-j-test.true c.row_sets_good.ensures (ap not c.if-not-row_sets_good.true)
-    ∙ kept_number _ _ _ c.how_many_kept-kept.ensures
-
-pub loop-j-preserved : goal.loop-j-preserved
-unfolding newest_words kept_words
-loop-j-preserved c = passing_next c.loop-j.invariant c.loop-j-test.true c.row_sets_good.ensures (ap not c.if-not-row_sets_good.false)
-
 pub returns : goal.returns
-returns c = passing_end c.loop-j.invariant c.loop-j-test.false ∙ kept_number _ _ _ c.how_many_kept-kept.ensures
+unfolding kept_pass newest_words
+returns c =
+    all_from_yields_List (λ j. sets_good (newest_words c.args.book.words.now c.args.sc j)) _ _ _ c.all.ensures.ran
+    (YieldsList-from_range 0 c.min.result (min c.args.sc 64) refl (omega arith)) (λ x b q k. search (rules, tests))
+    ∙ all_range sets_good (newest_words c.args.book.words.now c.args.sc) (min c.args.sc 64)

@@ -1,20 +1,18 @@
-use Rattle.std.proofs.Common.{ap, not}
+-- `checking::waiting_good` meets its contract: the walk over the numbers below the count asks of each row what the rules ask of its entry.
+use Rattle.std.proofs.Common.{rules, ◌∙◌, arith}
+use borrow.Author.Tests.{tests}
+use Rattle.std.specs.Prelude.{refl}
+use Rattle.std.proofs.lemmas.Iterator.{YieldsList-from_range}
+use Rattle.std.proofs.lemmas.Iterator.Search.{all_from_yields_List}
+use Rattle.laws.specs.Walks.{all_range}
 use Rattle.tables.specs.View.{waiting_words}
-use Rattle.checking.specs.Walks.{passing_start, passing_next, passing_fails, passing_end}
+use Rattle.checking.specs.GoodRows.{row_good}
 use Rattle.checking.specs.Whole.{waiting_pass}
 use Rattle.checking.proofs.waiting_good.Goals as goal
 
-pub loop-i-init : goal.loop-i-init
-loop-i-init c = passing_start _ _ _
-
-pub returns-then-not-row_entry_good : goal.returns-then-not-row_entry_good
-unfolding waiting_pass waiting_words
-returns-then-not-row_entry_good c = passing_fails c.loop-i.invariant c.loop-i-test.true c.row_entry_good.ensures (ap not c.if-not-row_entry_good.true)
-
-pub loop-i-preserved : goal.loop-i-preserved
-unfolding waiting_words
-loop-i-preserved c = passing_next c.loop-i.invariant c.loop-i-test.true c.row_entry_good.ensures (ap not c.if-not-row_entry_good.false)
-
 pub returns : goal.returns
 unfolding waiting_pass
-returns c = passing_end c.loop-i.invariant c.loop-i-test.false
+returns c =
+    all_from_yields_List (λ i. row_good c.args.opened.partitions c.args.opened.own.number c.args.opened.dc (waiting_words c.args.book.words.now i)) _ _ _ c.all.ensures.ran
+    (YieldsList-from_range 0 c.args.count c.args.count refl (omega arith)) (λ x b q k. search (rules, tests))
+    ∙ all_range (row_good c.args.opened.partitions c.args.opened.own.number c.args.opened.dc) (waiting_words c.args.book.words.now) c.args.count
