@@ -1,19 +1,12 @@
 -- What `earliest_place` answers.
-use Rattle.std.specs.Prelude.{ℕ, ◌≤◌, Bool, true, false, cond, List, ◌≡◌}
-use Rattle.std.proofs.Math.Option.{Option, none, some}
-use Rattle.std.proofs.Math.Path.{sym}
-use Rattle.std.proofs.Common.{ap, ◌∙◌, arith}
+use Rattle.std.specs.Prelude.{ℕ, ◌≤◌, Bool, true, false, cond, List, ◌≡◌, Some, None}
+use Rattle.std.proofs.Math.Option.{none, some}
+use Rattle.std.proofs.Common.{sym, ap, ◌∙◌, arith}
 use Rattle.rules.specs.Lists.{any}
 use Rattle.rules.specs.Place.{place}
+use Rattle.laws.specs.Options.{given}
 use Rattle.laws.specs.Tabs.{tab, length_tab, take_tab}
 use Rattle.certifying.specs.Places.{Reached, place_reached}
-use Rattle.certifying.specs.declared.Place.{Place}
-use Rattle.certifying.specs.declared.Place.TheVariants.{At, Nowhere}
-
--- A place, or nowhere.
-unfoldable pub place_of : Option ℕ → Place
-place_of none = Nowhere
-place_of (some i) = At i
 
 -- The two walks: what stands before the place reached, and the answer.
 module _ {A : Type 0} (pass : A → Bool) (n i : ℕ) (f : ℕ → A) (reached : Reached pass (tab n f) i) where
@@ -25,10 +18,8 @@ module _ {A : Type 0} (pass : A → Bool) (n i : ℕ) (f : ℕ → A) (reached :
   place_told : (block : A → Bool) → place block pass (tab n f) ≡ cond (any block (tab i f)) none (some i)
   place_told block = place_reached block pass (tab n f) i reached ∙ ap (λ (es : List A). cond (any block es) none (some i)) (take_tab i n f reached_most)
 
-  pub free_at : (block : A → Bool) {r : Bool} → r ≡ any block (tab i f) → r ≡ false → At i ≡ place_of (place block pass (tab n f))
-  unfolding place_of
+  pub free_at : (block : A → Bool) {r : Bool} → r ≡ any block (tab i f) → r ≡ false → Some i ≡ given (place block pass (tab n f))
   free_at block told free = rw (place_told block, sym told ∙ free)
 
-  pub blocked_nowhere : (block : A → Bool) {r : Bool} → r ≡ any block (tab i f) → r ≡ true → Nowhere ≡ place_of (place block pass (tab n f))
-  unfolding place_of
+  pub blocked_nowhere : (block : A → Bool) {r : Bool} → r ≡ any block (tab i f) → r ≡ true → None ≡ given (place block pass (tab n f))
   blocked_nowhere block told blocks = rw (place_told block, sym told ∙ blocks)

@@ -1,94 +1,112 @@
--- The walks over rows, as walks over a function's first values. One goes on while a test fails, one goes back from the end while a test holds.
-use Prim.Native.Nat.{ℕ, zero, suc, ◌+◌, ◌-◌, ◌≤◌, ◌<◌}
-use Rattle.std.specs.Prelude.{Bool, true, false, not, ◌&&◌, ◌∷◌, ◌≡◌, length, drop}
-use Rattle.std.proofs.Math.Path.{refl}
-use Rattle.std.proofs.Common.{sym, ap, ◌∙◌, below_more, arith, drop_of_length-le, drop-cons}
+-- The library's walks over the numbers below n, by a closure that asks of what a function gives at each. One stops at the first value that passes a test;
+-- one comes from the back and stops at the last value that fails it: the place behind that one is the place reached, or the first place where none fails.
+use Rattle.std.specs.Prelude.{ℕ, zero, suc, ◌+◌, ◌-◌, ◌≤◌, ◌<◌, Bool, true, false, not, ◌&&◌, List, [], ◌∷◌, ◌≡◌, refl, ltb, length, drop, Option, Some, None, MatchOption}
+use Rattle.std.specs.declared.ops.Range.{Range}
+use Rattle.std.specs.List.{FoldsTo}
+use Rattle.std.specs.Fn.{Called}
+use Rattle.std.specs.Option.{is_some, IsSomeAnd}
+use Rattle.std.specs.Iterator.{Yields, ChecksAny, FindsPositionBack}
+use Rattle.std.proofs.Common.{true≢false, sym, subst, ap, ◌∙◌, arith, drop-cons}
 use Rattle.std.proofs.lemmas.Bool.{not-true, not-false}
+use Rattle.std.proofs.lemmas.Iterator.{YieldsList-from_range}
+use Rattle.std.proofs.lemmas.Iterator.Search.{any_from_yields_List}
+use Rattle.std.proofs.iter.Yields.{nat_range_steps}
+use Rattle.std.proofs.iter.runs.Sources.{nat_range_steps_back}
+use denote.Param.Members.{Mut}
+use borrow.Author.Tests.{ltb-true, ltb-false}
 use Rattle.rules.specs.Lists.{any, all}
-use Rattle.laws.specs.Tests.{or_first, or_second, or_neither, and_both}
-use Rattle.laws.specs.Tabs.{tab, length_tab, get_or_tab}
+use Rattle.laws.specs.Tests.{split, and_both}
+use Rattle.laws.specs.Walks.{any_range}
+use Rattle.laws.specs.Tabs.{tab, length_tab, get_or_tab, drop_tab}
 use Rattle.certifying.specs.Places.{Reached}
 
--- None of the first i values passes the test; there are n.
-pub record NoneYet {A : Type 0} (test : A → Bool) (f : ℕ → A) (n i : ℕ) : Type 0 where
-  pub most : i ≤ n
-  pub fails : (j : ℕ) → j < i → test (f j) ≡ false
+-- The numbers below n.
+abbrev below : ℕ → Range ℕ
+below n = record { start = 0; end = n }
 
--- Every value from the ith on passes the test; there are n.
-pub record AllFrom {A : Type 0} (pass : A → Bool) (f : ℕ → A) (n i : ℕ) : Type 0 where
-  pub most : i ≤ n
-  pub pass_on : all pass (drop i (tab n f)) ≡ true
+-- A test asked of each of the first n values, until one passes.
+pub asked_each : {A F : Type 0} {g : Mut F (ℕ × Unit {0}) Bool} (test : A → Bool) (f : ℕ → A) (asked : F)
+    → ((x : ℕ) (b : Bool) (q : F) → Called g asked (x, tt) b q → (q ≡ asked) × (b ≡ test (f x)))
+    → (n : ℕ) (u : Range ℕ) (r : Bool) → ChecksAny nat_range_steps g (below n) asked r u → r ≡ any test (tab n f)
+asked_each test f asked says n u r d =
+    any_from_yields_List (λ i. test (f i)) u asked r d (YieldsList-from_range 0 n n refl (omega arith)) says ∙ any_range test f n
 
-module _ {A : Type 0} where
-  any_tab_some : (test : A → Bool) (f : ℕ → A) (n i : ℕ) → i < n → test (f i) ≡ true → any test (tab n f) ≡ true
+module _ {A : Type 0} (pass : A → Bool) where
+  all_pass : (n : ℕ) (f : ℕ → A) → ((j : ℕ) → j < n → pass (f j) ≡ true) → all pass (tab n f) ≡ true
   unfolding tab
-  any_tab_some test f zero i low h = absurd (omega arith)
-  any_tab_some test f (suc n) zero low h = or_first (test (f 0)) (any test (tab n (λ j. f (suc j)))) h
-  any_tab_some test f (suc n) (suc i) low h =
-      or_second (test (f 0)) (any test (tab n (λ j. f (suc j)))) (any_tab_some test (λ j. f (suc j)) n i (omega arith) h)
+  all_pass zero f h = refl
+  all_pass (suc n) f h =
+      and_both (pass (f 0)) (all pass (tab n (λ j. f (suc j)))) (h 0 (omega arith)) (all_pass n (λ j. f (suc j)) (λ j low. h (suc j) (omega arith)))
 
-  any_tab_none : (test : A → Bool) (f : ℕ → A) (n : ℕ) → ((j : ℕ) → j < n → test (f j) ≡ false) → any test (tab n f) ≡ false
-  unfolding tab
-  any_tab_none test f zero h = refl
-  any_tab_none test f (suc n) h =
-      or_neither (test (f 0)) (any test (tab n (λ j. f (suc j)))) (h 0 (omega arith)) (any_tab_none test (λ j. f (suc j)) n (λ j low. h (suc j) (omega arith)))
+  module _ (f : ℕ → A) (n : ℕ) where
+    pass_behind : (i : ℕ) → ((j : ℕ) → j < n → i ≤ j → pass (f j) ≡ true) → all pass (drop i (tab n f)) ≡ true
+    pass_behind i h = ap (all pass) (drop_tab i n f) ∙ all_pass (n - i) (λ j. f (i + j)) (λ j low. h (i + j) (omega arith) (omega arith))
 
-  -- the value at k, in front of those behind it
-  tab_from : (f : ℕ → A) (n k : ℕ) → k < n → drop k (tab n f) ≡ f k ∷ drop (suc k) (tab n f)
-  tab_from f n k low =
-      drop-cons (tab n f) k (f 0) (rw (length_tab n f) low) ∙ ap (λ (x : A). x ∷ drop (suc k) (tab n f)) (get_or_tab n f k (f 0) low)
+    fails_from : (i : ℕ) → i < n → pass (f i) ≡ false → all pass (drop i (tab n f)) ≡ false
+    fails_from i low h =
+        ap (all pass) (drop-cons (tab n f) i (f 0) (rw (length_tab n f) low))
+        ∙ ap (λ (b : Bool). b && all pass (drop (suc i) (tab n f))) (ap pass (get_or_tab n f i (f 0) low) ∙ h)
 
-  all_from : (pass : A → Bool) (f : ℕ → A) (n k i : ℕ) → suc k ≡ i → i ≤ n → all pass (drop k (tab n f)) ≡ (pass (f k) && all pass (drop i (tab n f)))
-  all_from pass f n k i e low =
-      ap (all pass) (tab_from f n k (omega arith)) ∙ ap (λ (m : ℕ). pass (f k) && all pass (drop m (tab n f))) e
+    -- Every value from the ith on passes, and the one in front of them, if there is one, doesn't.
+    stops_at : (i : ℕ) → i ≤ n → ((j : ℕ) → j < n → i ≤ j → pass (f j) ≡ true) → ((j : ℕ) → suc j ≡ i → pass (f j) ≡ false) → Reached pass (tab n f) i
+    stops_at i low passes fails =
+        record {
+          within = omega (arith, length_tab n f);
+          behind = pass_behind i passes;
+          stopped = λ j e. fails_from j (omega arith) (fails j e);
+        }
 
--- The walk on: a value found ends it.
-pub none_start : {A : Type 0} (test : A → Bool) (f : ℕ → A) (n : ℕ) → NoneYet test f n 0
-none_start test f n = record { most = omega arith; fails = λ j low. absurd (omega arith) }
+-- The library's search from the back, by a closure that answers whether the value at a number fails.
+module _ {A F : Type 0} {g : Mut F (ℕ × Unit {0}) Bool} (pass : A → Bool) (f : ℕ → A) (asked : F)
+    (says : (x : ℕ) (b : Bool) (q : F) → Called g asked (x, tt) b q → (q ≡ asked) × (b ≡ not (pass (f x)))) where
+  -- The numbers that came stood from t's end on, and each passes.
+  abbrev Came : List ℕ → Range ℕ → Range ℕ → F → Type 0
+  Came xs s t q = (q ≡ asked) × (t.start ≡ s.start) × (t.end + length xs ≡ s.end) × ((j : ℕ) → j < s.end → t.end ≤ j → pass (f j) ≡ true)
 
-module _ {A : Type 0} {test : A → Bool} {f : ℕ → A} {n i : ℕ} (kept : NoneYet test f n i) where
-  pub none_step : {r : Bool} → i < n → r ≡ test (f i) → r ≡ false → NoneYet test f n (i + 1)
-  none_step more told failed =
-      record { most = omega arith; fails = below_more _ _ kept.fails (sym told ∙ failed) }
+  came : (xs : List ℕ) (s t : Range ℕ) (q : F) → Yields nat_range_steps_back s xs t → FoldsTo (λ p x r. Called g p (x, tt) false r) asked xs q → Came xs s t q
+  came [] s t q y c =
+      let same = ap (λ (r : Range ℕ). r.end) y in
+      (sym c, ap (λ (r : Range ℕ). r.start) (sym y), omega arith, λ j low high. absurd (omega arith))
+  came (x ∷ xs) s t q y c =
+      let answer = says x false c.0 c.1 in
+      let rest = came xs y.0 t q y.2 (subst (λ k. FoldsTo (λ p z r. Called g p (z, tt) false r) k xs q) answer.0 c.2) in (
+        rest.0,
+        rest.1 ∙ y.1.0,
+        omega (arith, rest.2, y.1.1.2),
+        λ j low high.
+            split (ltb j y.0.end)
+            (λ e. rest.3 j (ltb-true j y.0.end e) high)
+            (λ e. let least = ltb-false j y.0.end e in
+            let here : j ≡ x = omega (arith, y.1.1.1, y.1.1.2) in
+            rw here (not-false (pass (f x)) (sym answer.1))),
+      )
 
-  pub none_found : {r : Bool} → i < n → r ≡ test (f i) → r ≡ true → true ≡ any test (tab n f)
-  none_found more told found = sym (any_tab_some test f n i more (sym told ∙ found))
+  -- What is found: the last number whose value fails, or none.
+  abbrev Last : ℕ → Option ℕ → Type 0
+  Last n found = MatchOption found ((j : ℕ) → j < n → pass (f j) ≡ true)
+      (λ i. (i < n) × (pass (f i) ≡ false) × ((j : ℕ) → j < n → i + 1 ≤ j → pass (f j) ≡ true))
 
-  pub none_end : n ≤ i → false ≡ any test (tab n f)
-  none_end over = sym (any_tab_none test f n (λ j low. kept.fails j (omega arith)))
+  last : (n : ℕ) (xs : List ℕ) (t u : Range ℕ) (q : F) (next found : Option ℕ) → Came xs (below n) t q → nat_range_steps_back t next u
+      → MatchOption next (found ≡ None) (λ x. IsSomeAnd found (λ i. i + 1 + length xs ≡ n - 0) × ((h : F) × Called g q (x, tt) true h)) → Last n found
+  last n xs t u q None None c p m = λ j low. c.3 j low (omega (arith, c.1, p.1.0))
+  last n xs t u q None (Some i) c p m = absurd (true≢false (ap is_some m))
+  last n xs t u q (Some x) None c p m = absurd m.0
+  last n xs t u q (Some x) (Some i) c p m =
+      let here : x ≡ i = omega (arith, m.0, c.2, p.1.1, p.1.2) in
+      let answer = says x true m.1.0 (subst (λ k. Called g k (x, tt) true m.1.0) c.0 m.1.1) in (
+        omega (arith, m.0),
+        subst (λ k. pass (f k) ≡ false) here (not-true (pass (f x)) (sym answer.1)),
+        λ j low high. c.3 j low (omega (arith, p.1.1, p.1.2)),
+      )
 
--- The walk back: a value that fails ends it.
-pub all_start : {A : Type 0} (pass : A → Bool) (f : ℕ → A) (n : ℕ) → AllFrom pass f n n
-all_start pass f n =
-    let over : length (tab n f) ≤ n = omega (arith, length_tab n f) in
-    record { most = omega arith; pass_on = rw (drop_of_length-le (tab n f) over) }
+  placed : (n : ℕ) (found : Option ℕ) (place : ℕ) → Last n found → MatchOption found (place ≡ 0) (λ i. place ≡ i + 1) → Reached pass (tab n f) place
+  placed n None place l m = stops_at pass f n place (omega arith) (λ j low high. l j low) (λ j e. absurd (omega arith))
+  placed n (Some i) place l m =
+      stops_at pass f n place (omega (arith, l.0)) (λ j low high. l.2 j low (omega arith))
+      (λ j e. let here : i ≡ j = omega arith in subst (λ k. pass (f k) ≡ false) here l.1)
 
-module _ {A : Type 0} {pass : A → Bool} {f : ℕ → A} {n i : ℕ} (kept : AllFrom pass f n i) where
-  pub all_step : {r : Bool} → 0 < i → r ≡ pass (f (i - 1)) → not r ≡ false → AllFrom pass f n (i - 1)
-  all_step {r} some told passed =
-      let low = kept.most in
-      record {
-        most = omega arith;
-        pass_on = all_from pass f n (i - 1) i (omega arith) low ∙ and_both (pass (f (i - 1))) (all pass (drop i (tab n f))) (sym told ∙ not-false r passed) kept.pass_on;
-      }
-
-  pub all_stopped : {r : Bool} → r ≡ pass (f (i - 1)) → not r ≡ true → Reached pass (tab n f) i
-  all_stopped {r} told failed =
-      let low = kept.most in
-      record {
-        within = omega (arith, length_tab n f);
-        behind = kept.pass_on;
-        stopped = λ j e.
-            let here : j ≡ i - 1 = omega arith in
-            let fails : pass (f j) ≡ false = ap (λ (k : ℕ). pass (f k)) here ∙ (sym told ∙ not-true r failed) in
-            all_from pass f n j i e low ∙ rw fails;
-      }
-
-  pub all_end : i ≤ 0 → Reached pass (tab n f) 0
-  all_end over =
-      let first : i ≡ 0 = omega arith in
-      record {
-        within = omega arith;
-        behind = rw first at kept.pass_on;
-        stopped = λ j e. absurd (omega arith);
-      }
+  -- The place behind what is found, or else the first, is the one reached.
+  pub reached_back : (n : ℕ) (u : Range ℕ) (found : Option ℕ) (place : ℕ) → FindsPositionBack nat_range_steps_back g (below n) asked (n - 0) found u
+      → MatchOption found (place ≡ 0) (λ i. place ≡ i + 1) → Reached pass (tab n f) place
+  reached_back n u found place d m =
+      placed n found place (last n d.0 d.3.0 u d.2 d.1 found (came d.0 (below n) d.3.0 d.2 d.3.1 d.4) d.3.2 d.5) m

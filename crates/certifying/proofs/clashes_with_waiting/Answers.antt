@@ -1,21 +1,8 @@
-use Rattle.tables.specs.View.{waiting_words}
-use Rattle.certifying.specs.Walks.{none_start, none_step, none_found, none_end}
+-- The walk over the places asks of each waiting row (`asked_each` of `specs/Walks.antt`). Assumes nothing.
+use Rattle.std.proofs.Common.{rules}
+use borrow.Author.Tests.{tests}
+use Rattle.certifying.specs.Walks.{asked_each}
 use Rattle.certifying.proofs.clashes_with_waiting.Goals as goal
 
-pub loop-i-init : goal.loop-i-init
-loop-i-init c = none_start _ _ _
-
-pub row_clashes-requires-clause-good_row : goal.row_clashes-requires-clause-good_row
-unfolding waiting_words
-row_clashes-requires-clause-good_row c = c.requires.waiting_good _ c.loop-i-test.true
-
-pub returns-then-row_clashes : goal.returns-then-row_clashes
-unfolding waiting_words
-returns-then-row_clashes c = none_found c.loop-i.invariant c.loop-i-test.true c.row_clashes.ensures c.if-row_clashes.true
-
-pub loop-i-preserved : goal.loop-i-preserved
-unfolding waiting_words
-loop-i-preserved c = none_step c.loop-i.invariant c.loop-i-test.true c.row_clashes.ensures c.if-row_clashes.false
-
 pub returns : goal.returns
-returns c = none_end c.loop-i.invariant c.loop-i-test.false
+returns c = asked_each _ _ _ (λ x b q k. search (rules, tests)) _ _ _ c.any.ensures.ran
