@@ -1,8 +1,8 @@
 -- A kept row's writes folded into the values, from the last write to the first: the rule `written` read from behind.
-use Rattle.std.specs.Prelude.{ℕ, suc, ◌+◌, ◌-◌, ◌*◌, ◌%◌, ◌≤◌, ◌<◌, ◌≡◌, refl, ℤ, pos, length, take}
+use Rattle.std.specs.Prelude.{ℕ, suc, ◌+◌, ◌-◌, ◌*◌, ◌%◌, ◌≤◌, ◌<◌, ◌≡◌, ℤ, pos, length, take}
 use mathlib.Core.List.{List, [], ◌∷◌, ◌++◌}
 use Rattle.std.proofs.Math.Path.{sym, ap}
-use Rattle.std.proofs.Common.{ap₂, ◌∙◌, subst, arith, le-leb, drop_of_length-le, take-append-drop, drop-cons, length-take-le}
+use Rattle.std.proofs.Common.{ap₂, ◌∙◌, arith, le-leb, drop_of_length-le, take-append-drop, drop-cons, length-take-le}
 use Rattle.std.proofs.lemmas.Bool.{lt-leb}
 use Rattle.std.proofs.Math.ListN.{drop, get_or, set, length-set}
 use Rattle.std.proofs.lemmas.List.{set-append_left}
@@ -12,18 +12,11 @@ use Rattle.rules.specs.Closing.{written}
 use Rattle.laws.specs.Cuts.{cut, put, get_or_cut, length_cut, get_or_put_above}
 use Rattle.laws.specs.Tabs.{tab, length_tab, get_or_tab}
 use Rattle.claims.specs.SoundKept.{length_written}
-use Rattle.tables.specs.Layout.{book_words, sums_words, waiting_row, waiting_amounts, kept_row, kept_amounts}
-use Rattle.tables.specs.Rows.{row_writes}
+use Rattle.tables.specs.Layout.{sums_words, waiting_row, waiting_amounts, kept_amounts}
+use Rattle.tables.specs.Rows.{row_keys, row_writes}
 use Rattle.tables.specs.View.{kept_words, values_view}
 use Rattle.tables.specs.Keeping.{folded_sums, evicted_sums, kept_book, kept_sums, committed_book, committed_sums}
-use Rattle.tables.specs.Good.{GoodRow, KeptGood}
-use Rattle.keeping.specs.KeptRows.{word_at, key_at, key_low}
-
--- What `fold` asks: the two lengths, and a good row.
-pub record FoldFits (book : List ℕ) (sums : List ℤ) (v : ℕ) : Type 0 where
-  pub book_long : book_words ≤ length book
-  pub sums_long : sums_words ≤ length sums
-  pub good : GoodRow (kept_words book v)
+use Rattle.tables.specs.Good.{GoodRow, length_row_keys}
 
 -- The writes of the kept row.
 abbrev row_of : List ℕ → List ℤ → ℕ → List Write
@@ -33,7 +26,6 @@ row_of book sums v = row_writes (kept_words book v) (cut (kept_amounts v) 8 sums
 pub record Folding (book : List ℕ) (sums : List ℤ) (v : ℕ) (t : List ℤ) (j : ℕ) : Type 0 where
   pub most : j ≤ get_or (kept_words book v) 7 0
   pub done : t ≡ put sums 0 (written (drop j (row_of book sums v)) (values_view sums))
-  pub long : length t ≡ length sums
 
 -- The first of some writes, and the rest.
 write_at : List ℕ → List ℤ → ℕ → Write
@@ -68,46 +60,38 @@ length_values : (ws : List Write) (sums : List ℤ) → sums_words ≤ length su
 unfolding values_view
 length_values ws sums long = length_written ws (cut 0 keys sums) ∙ length_cut 0 keys sums (omega arith)
 
-pub fold_start : {book : List ℕ} {sums : List ℤ} {v : ℕ} (row count : ℕ) → FoldFits book sums v → row ≡ kept_row v → count ≡ get_or book (row + 7) 0
-    → Folding book sums v sums count
-unfolding written values_view
-fold_start {book} {sums} {v} row count fits e c =
-    let w = kept_words book v in
-    let a = cut (kept_amounts v) 8 sums in
-    let all : count ≡ get_or w 7 0 = c ∙ (ap (λ (r : ℕ). get_or book (r + 7) 0) e ∙ sym (word_at book v 7 (omega arith))) in
-    record {
-      most = omega arith;
-      done = sym (ap (λ (ws : List Write). put sums 0 (written ws (values_view sums))) (none_left w a count all) ∙ values_back sums keys (omega arith));
-      long = refl;
-    }
+module _ {book : List ℕ} {sums : List ℤ} {v : ℕ} (good : GoodRow (kept_words book v)) (long : sums_words ≤ length sums) where
+  pub fold_start : Folding book sums v sums (length (row_keys (kept_words book v)))
+  unfolding written values_view
+  fold_start =
+      let w = kept_words book v in
+      let a = cut (kept_amounts v) 8 sums in
+      let all = length_row_keys w in
+      record {
+        most = omega arith;
+        done = sym (ap (λ (ws : List Write). put sums 0 (written ws (values_view sums))) (none_left w a (length (row_keys w)) all) ∙ values_back sums keys (omega arith));
+      }
 
-module _ {book : List ℕ} {sums t : List ℤ} {v j : ℕ} (row key : ℕ) (kept : Folding book sums v t j) (fits : FoldFits book sums v) (some : 0 < j)
-    (e_row : row ≡ kept_row v) (e_key : key ≡ get_or book (row + 16 + (j - 1)) 0) where
-  this_key : key ≡ get_or (kept_words book v) (16 + (j - 1)) 0
-  this_key =
-      let most = kept.most in let few = fits.good.few_keys in
-      e_key ∙ key_at book v row (j - 1) e_row (omega arith)
-
-  this_key_low : key < keys
-  this_key_low = let most = kept.most in omega (arith, this_key, key_low (kept_words book v) (j - 1) fits.good (omega arith))
-
-  pub fold_in : key < length t
-  fold_in = let low = this_key_low in let long = kept.long in omega arith
-
-  pub fold_step : (amounts : ℕ) (x : ℤ) → amounts ≡ kept_amounts v → x ≡ get_or t (amounts + (j - 1)) (pos 0) → Folding book sums v (set t key x) (j - 1)
-  unfolding written write_at
-  fold_step amounts x e_amounts e_x =
-      let most = kept.most in let few = fits.good.few_keys in let low = this_key_low in
+  -- the last of the writes that are left goes under those stored before
+  pub fold_step : {t : List ℤ} {j : ℕ} (key slot : ℕ) (x : ℤ) → Folding book sums v t j → 0 < j → key ≡ get_or (row_keys (kept_words book v)) (j - 1) 0
+      → slot ≡ v % 64 → x ≡ get_or t (1280 + 8 * slot + (j - 1)) (pos 0) → Folding book sums v (set t key x) (j - 1)
+  unfolding written write_at row_keys
+  fold_step {t} {j} key slot x kept some e_key e_slot e_x =
+      let most = kept.most in let few = good.few_keys in
       let w = kept_words book v in
       let a = cut (kept_amounts v) 8 sums in
       let ws = drop j (row_writes w a) in
       let vs = written ws (values_view sums) in
-      let values = length_values ws sums fits.sums_long in
+      let values = length_values ws sums long in
+      let counted = length_row_keys w in
+      let low : key < keys = omega (arith, e_key, good.keys_good.low (j - 1) (omega arith)) in
+      let this_key : key ≡ get_or w (16 + (j - 1)) 0 = e_key ∙ get_or_tab (get_or w 7 0) (λ i. get_or w (16 + i) 0) (j - 1) 0 (omega arith) in
       let this_value : x ≡ get_or a (j - 1) (pos 0) =
       e_x
-      ∙ (ap (λ (l : List ℤ). get_or l (amounts + (j - 1)) (pos 0)) kept.done
-      ∙ (get_or_put_above sums 0 vs (amounts + (j - 1)) (pos 0) (omega arith) (omega arith)
-      ∙ (ap (λ (m : ℕ). get_or sums (m + (j - 1)) (pos 0)) e_amounts ∙ sym (get_or_cut (kept_amounts v) 8 sums (j - 1) (pos 0) (omega arith))))) in
+      ∙ (ap (λ (k : ℕ). get_or t (1280 + 8 * k + (j - 1)) (pos 0)) e_slot
+      ∙ (ap (λ (l : List ℤ). get_or l (kept_amounts v + (j - 1)) (pos 0)) kept.done
+      ∙ (get_or_put_above sums 0 vs (kept_amounts v + (j - 1)) (pos 0) (omega arith) (omega arith)
+      ∙ sym (get_or_cut (kept_amounts v) 8 sums (j - 1) (pos 0) (omega arith))))) in
       record {
         most = omega arith;
         done =
@@ -116,7 +100,6 @@ module _ {book : List ℕ} {sums t : List ℤ} {v j : ℕ} (row key : ℕ) (kept
             ∙ ap (put sums 0)
             (ap₂ (set vs) this_key this_value
             ∙ sym (ap (λ (l : List Write). written l (values_view sums)) (writes_from w a (j - 1) j (omega arith) (omega arith)))));
-        long = length-set t key x ∙ kept.long;
       }
 
 pub fold_end : {book : List ℕ} {sums t : List ℤ} {v j : ℕ} → Folding book sums v t j → j ≤ 0 → t ≡ folded_sums book sums v
@@ -125,29 +108,25 @@ fold_end {book} {sums} {t} {v} {j} kept all =
     let none : j ≡ 0 = omega arith in
     kept.done ∙ ap (λ (k : ℕ). put sums 0 (written (drop k (row_of book sums v)) (values_view sums))) none
 
--- Below 64 commits none is folded in; from there on it is the one that stands where version sc + 1 will be kept.
+-- Below 64 commits none is folded in; from there on it is the oldest kept, which stands where version sc + 1 will be kept.
 pub none_evicted : (book : List ℕ) (sums : List ℤ) (sc : ℕ) → sc < 64 → sums ≡ evicted_sums book sums sc
 unfolding evicted_sums
 none_evicted book sums sc few = rw (lt-leb most_kept sc few)
 
-pub one_evicted : {out : List ℤ} (book : List ℕ) (sums : List ℤ) (sc : ℕ) → 64 ≤ sc → out ≡ folded_sums book sums (sc + 1) → out ≡ evicted_sums book sums sc
-unfolding evicted_sums
-one_evicted book sums sc full e = rw (le-leb most_kept sc full) e
-
-pub oldest_fits : (book : List ℕ) (sums : List ℤ) (sc : ℕ) → (book_words ≤ length book) × ((sums_words ≤ length sums) × KeptGood sc book) → 64 ≤ sc
-    → FoldFits book sums (sc + 1)
-unfolding kept_words
-oldest_fits book sums sc fits full =
-    let slot : (sc - 63) % 64 ≡ (sc + 1) % 64 = omega arith in
-    let good = fits.1.1 (sc - 63) (omega arith) (omega arith) (omega arith) in
-    record { book_long = fits.0; sums_long = fits.1.0; good = subst (λ (k : ℕ). GoodRow (cut (774 + 24 * k) 24 book)) slot good }
+pub one_evicted : {out : List ℤ} (book : List ℕ) (sums : List ℤ) (sc : ℕ) → 64 ≤ sc → out ≡ folded_sums book sums (sc - 64 + 1) → out ≡ evicted_sums book sums sc
+unfolding evicted_sums folded_sums kept_words
+one_evicted book sums sc full e =
+    let same : (sc - 64 + 1) % 64 ≡ (sc + 1) % 64 = omega arith in
+    rw (le-leb most_kept sc full)
+    (e ∙ ap (λ (slot : ℕ). put sums 0 (written (row_writes (cut (774 + 24 * slot) 24 book) (cut (1280 + 8 * slot) 8 sums)) (values_view sums))) same)
 
 -- The head's row and amounts at the kept row of the new version.
-pub row_kept : {out : List ℕ} (book : List ℕ) (sc row : ℕ) → row ≡ kept_row (sc + 1) → out ≡ put book row (cut (waiting_row 0) 24 book) → out ≡ committed_book book sc
+pub row_kept : {out : List ℕ} (book : List ℕ) (sc slot : ℕ) → slot ≡ (sc + 1) % 64 → out ≡ put book (774 + 24 * slot) (cut (waiting_row 0) 24 book)
+    → out ≡ committed_book book sc
 unfolding committed_book kept_book
-row_kept book sc row e moved = rw e at moved
+row_kept book sc slot e moved = rw e at moved
 
-pub sums_kept : {mid out : List ℤ} (book : List ℕ) (sums : List ℤ) (sc amounts : ℕ) → mid ≡ evicted_sums book sums sc → amounts ≡ kept_amounts (sc + 1)
-    → out ≡ put mid amounts (cut (waiting_amounts 0) 8 mid) → out ≡ committed_sums book sums sc
+pub sums_kept : {mid out : List ℤ} (book : List ℕ) (sums : List ℤ) (sc slot : ℕ) → mid ≡ evicted_sums book sums sc → slot ≡ (sc + 1) % 64
+    → out ≡ put mid (1280 + 8 * slot) (cut (waiting_amounts 0) 8 mid) → out ≡ committed_sums book sums sc
 unfolding committed_sums kept_sums
-sums_kept book sums sc amounts evicted e moved = rw (e, evicted) at moved
+sums_kept book sums sc slot evicted e moved = rw (e, evicted) at moved

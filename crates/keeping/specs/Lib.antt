@@ -1,5 +1,4 @@
--- What the loops over kept rows keep, over plain lists: a key looked for in a row, a row's writes folded into the values, the newest value of a key.
+-- Laws of the kept rows: the place of a key among a row's writes, reading from the newest version on, and folding from the last write on.
 pub mod Places
-pub mod KeptRows
-pub mod Folding
 pub mod Reading
+pub mod Folding

@@ -1,24 +1,18 @@
 -- The value of a key at a snapshot, looked for from the snapshot's version down to the floor: the rule's newest value among the commits from there on.
 use Prim.Native.Nat.{ℕ, suc, ◌+◌, ◌-◌, ◌≤◌, ◌<◌, min}
 use mathlib.Core.List.{List, ◌∷◌}
-use Rattle.std.proofs.Math.Option.{Option, some}
-use Rattle.std.specs.Prelude.{◌≡◌, ℤ, pos}
+use Rattle.std.specs.Prelude.{◌≡◌, ℤ, pos, Some, None}
 use Rattle.std.proofs.Common.{sym, ap₂, ◌∙◌}
 use Rattle.std.proofs.Math.Path.{ap}
 use native.Mathlib.Omega.{arith}
 use Rattle.std.proofs.Math.ListN.{get_or}
 use Rattle.rules.specs.Sizes.{keys, most_kept, floor}
 use Rattle.rules.specs.Ledger.{Commit}
-use Rattle.rules.specs.Read.{else_value, newest_value, read_at}
+use Rattle.rules.specs.Read.{put_at, else_value, newest_value, read_at}
 use Rattle.laws.specs.Cuts.{cut, get_or_cut}
 use Rattle.laws.specs.Tabs.{tab, tab_as, tab_same, drop_tab}
-use Rattle.tables.specs.Layout.{kept_amounts}
-use Rattle.tables.specs.Rows.{row_keys, row_commit}
-use Rattle.tables.specs.View.{kept_words, commit_at, kept_view, values_view, books_view}
-use Rattle.tables.specs.Good.{GoodRow, KeptGood}
-use Rattle.keeping.specs.declared.Found.{Found}
-use Rattle.keeping.specs.declared.Found.TheVariants.{At, Nothing}
-use Rattle.keeping.specs.Places.{seek, found_of, found_at, found_nothing, seek_low, value_at, row_put}
+use Rattle.laws.specs.Options.{given, given_some, given_none}
+use Rattle.tables.specs.View.{commit_at, kept_view, values_view, books_view}
 
 -- The newest value among the versions v, v - 1, .. above the lowest.
 unfoldable pub newest_down : List ℕ → List ℤ → ℕ → ℕ → ℕ → ℤ
@@ -31,21 +25,18 @@ pub record Reading (book : List ℕ) (sums : List ℤ) (sc key st lowest v : ℕ
   pub same : read_at key st (books_view sc book sums) ≡ newest_down book sums key lowest v
 
 module _ (book : List ℕ) (sums : List ℤ) (key : ℕ) where
-  -- the newest of them, or among the others
+  -- what the newest of them put, or the newest among the others
   newest_first : (lowest v : ℕ) → lowest < v
-      → newest_down book sums key lowest v
-      ≡ else_value (value_at (λ j. get_or (cut (kept_amounts v) 8 sums) j (pos 0)) (seek key 0 (row_keys (kept_words book v)))) (newest_down book sums key lowest (v - 1))
-  unfolding newest_down newest_value tab commit_at row_commit
+      → newest_down book sums key lowest v ≡ else_value (put_at key (commit_at book sums v).writes) (newest_down book sums key lowest (v - 1))
+  unfolding newest_down newest_value tab
   newest_first lowest v more =
       let count : v - lowest ≡ suc (v - 1 - lowest) = omega arith in
       let first : v - 0 ≡ v = omega arith in
       let next : (j : ℕ) → v - suc j ≡ v - 1 - j = λ j. omega arith in
-      let rest = newest_down book sums key lowest (v - 1) in
       ap (λ (n : ℕ). newest_value key (tab n (λ j. commit_at book sums (v - j))) (values_view sums)) count
-      ∙ (ap₂ (λ (c : Commit) (cs : List Commit). newest_value key (c ∷ cs) (values_view sums)) (ap (commit_at book sums) first)
+      ∙ ap₂ (λ (c : Commit) (cs : List Commit). newest_value key (c ∷ cs) (values_view sums)) (ap (commit_at book sums) first)
       (tab_same (v - 1 - lowest) (λ j. commit_at book sums (v - suc j)) (λ j. commit_at book sums (v - 1 - j))
       (λ j low. ap (commit_at book sums) (next j)))
-      ∙ ap (λ (o : Option ℤ). else_value o rest) (row_put (kept_words book v) (cut (kept_amounts v) 8 sums) key))
 
   newest_none : (lowest v : ℕ) → v ≤ lowest → key < keys → newest_down book sums key lowest v ≡ get_or sums key (pos 0)
   unfolding newest_down newest_value tab values_view
@@ -69,38 +60,22 @@ module _ (book : List ℕ) (sums : List ℤ) (key : ℕ) where
       }
 
 module _ {book : List ℕ} {sums : List ℤ} {sc key st lowest v : ℕ} (kept : Reading book sums sc key st lowest v) where
-  pub read_good : lowest < v → KeptGood sc book → st ≤ sc → GoodRow (kept_words book v)
-  read_good more good low = let most = kept.most in let e = kept.is_floor in good v (omega arith) (omega arith) (omega arith)
+  -- version v wrote the key
+  pub read_hit : {x : ℤ} → lowest < v → Some x ≡ given (put_at key (commit_at book sums v).writes) → x ≡ read_at key st (books_view sc book sums)
+  read_hit {x} more wrote =
+      let found = given_some (put_at key (commit_at book sums v).writes) x wrote in
+      sym (kept.same ∙ (newest_first book sums key lowest v more ∙ rw found))
 
-  -- the key found in the row of version v
-  module _ {r : Found} {j : ℕ} (more : lowest < v) (good : KeptGood sc book) (low : st ≤ sc) (told : r ≡ At j)
-      (answered : r ≡ found_of (seek key 0 (row_keys (kept_words book v)))) where
-    found : seek key 0 (row_keys (kept_words book v)) ≡ some j
-    found = found_at (seek key 0 (row_keys (kept_words book v))) j (sym told ∙ answered)
-
-    pub read_in : j < 8
-    read_in =
-        let few = (read_good more good low).keys_good.few in
-        omega (arith, seek_low key 0 (row_keys (kept_words book v)) j found)
-
-    pub read_hit : (amounts : ℕ) → amounts ≡ kept_amounts v → get_or sums (amounts + j) (pos 0) ≡ read_at key st (books_view sc book sums)
-    read_hit amounts e =
-        let few = read_in in
-        let here : get_or sums (amounts + j) (pos 0) ≡ get_or (cut (kept_amounts v) 8 sums) j (pos 0) =
-        ap (λ (a : ℕ). get_or sums (a + j) (pos 0)) e ∙ sym (get_or_cut (kept_amounts v) 8 sums j (pos 0) few) in
-        here ∙ sym (kept.same ∙ (newest_first book sums key lowest v more ∙ rw found))
-
-  -- and not found there
-  pub read_miss : {r : Found} → lowest < v → r ≡ Nothing → r ≡ found_of (seek key 0 (row_keys (kept_words book v)))
-      → Reading book sums sc key st lowest (v - 1)
-  read_miss more told answered =
+  -- and did not
+  pub read_miss : lowest < v → None ≡ given (put_at key (commit_at book sums v).writes) → Reading book sums sc key st lowest (v - 1)
+  read_miss more wrote =
       let most = kept.most in
-      let missing = found_nothing (seek key 0 (row_keys (kept_words book v))) (sym told ∙ answered) in
+      let missing = given_none (put_at key (commit_at book sums v).writes) wrote in
       record {
         most = omega arith;
         is_floor = kept.is_floor;
         same = kept.same ∙ (newest_first book sums key lowest v more ∙ rw missing);
       }
 
-  pub read_end : (place : ℕ) → v ≤ lowest → key < keys → place ≡ key → get_or sums place (pos 0) ≡ read_at key st (books_view sc book sums)
-  read_end place all low e = ap (λ (k : ℕ). get_or sums k (pos 0)) e ∙ sym (kept.same ∙ newest_none book sums key lowest v all low)
+  pub read_end : v ≤ lowest → key < keys → get_or sums key (pos 0) ≡ read_at key st (books_view sc book sums)
+  read_end all low = sym (kept.same ∙ newest_none book sums key lowest v all low)

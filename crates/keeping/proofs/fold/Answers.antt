@@ -1,31 +1,19 @@
-use native.Mathlib.Omega.{arith}
-use borrow.Author.Rules.{rules}
+-- The row is the one that the layout gives the version, so the list holds its keys, and each turn of the loop is one of the steps of `Folding`.
+use Rattle.std.proofs.Common.{rules, ap, get_or, List, ℕ, ◌-◌, ◌∙◌}
 use mir.Syntax.{w64}
 use mir.Facts.{to_z-of_z}
-use Rattle.keeping.specs.Folding.{fold_start, fold_in, fold_step, fold_end}
+use Rattle.tables.specs.Rows.{row_keys}
+use Rattle.keeping.specs.Folding.{fold_start, fold_step, fold_end}
 use Rattle.keeping.proofs.fold.Goals as goal
 
 pub loop-j-init : goal.loop-j-init
-loop-j-init c = fold_start _ _ c.requires c.kept_row-row.ensures c.wide-j.ensures
-
-pub bounds-sums-key : goal.bounds-sums-key
-bounds-sums-key c =
-    let row = c.kept_row-row.ensures in
-    fold_in _ _ c.loop-j.invariant c.requires c.loop-j-test.true row c.wide-key.ensures
-
-pub offset_bounds-sums-key : goal.offset_bounds-sums-key
-offset_bounds-sums-key c =
-    let low = fold_in _ _ c.loop-j.invariant c.requires c.loop-j-test.true c.kept_row-row.ensures c.wide-key.ensures in
-    omega arith
+loop-j-init c = let keys = c.keys.ensures ∙ ap row_keys c.row.ensures in rw keys (fold_start (rw c.row.ensures at c.row.result.good) c.requires.long)
 
 pub loop-j-preserved : goal.loop-j-preserved
 loop-j-preserved c =
-    let row = c.kept_row-row.ensures in
-    let amounts = c.kept_amounts-amounts.ensures in
-    fold_step _ _ c.loop-j.invariant c.requires c.loop-j-test.true row c.wide-key.ensures _ _ amounts (to_z-of_z {w = w64} (search rules))
-
-pub shape_of-sums : goal.shape_of-sums
-shape_of-sums c = c.loop-j.invariant.long
+    let keys = c.keys.ensures ∙ ap row_keys c.row.ensures in
+    fold_step (rw c.row.ensures at c.row.result.good) c.requires.long _ _ _ c.loop-j.invariant c.loop-j-test.true
+    (ap (λ (xs : List ℕ). get_or xs (c.loop-j.j - 1) 0) keys) c.slot.ensures (to_z-of_z {w = w64} (search rules))
 
 pub returns : goal.returns
 returns c = fold_end c.loop-j.invariant c.loop-j-test.false

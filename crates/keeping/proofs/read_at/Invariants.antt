@@ -1,9 +1,6 @@
--- No version above the one looked at, and at most st, writes the key: `Reading` of `specs/Reading.antt`. The measure is the version.
+-- No version above the one looked at, and at most st, writes the key: `Reading` of `specs/Reading.antt`.
 use Rattle.keeping.specs.Reading.{Reading}
 use Rattle.keeping.proofs.read_at.Given as goal
 
-abbrev pub invariant-loop-v : goal.invariant-loop-v
-invariant-loop-v l = Reading l.book l.sums l.sc l.key l.st l.lowest l.v
-
-abbrev pub decreases-loop-v : goal.decreases-loop-v
-decreases-loop-v l = l.v
+abbrev pub invariant-loop-version : goal.invariant-loop-version
+invariant-loop-version l = Reading l.kept.book.words.now l.sums l.kept.sc l.key l.st l.floor l.version
