@@ -1,5 +1,5 @@
--- The library's walks over the numbers below n, by a closure that asks of what a function gives at each. One stops at the first value that passes a test;
--- one comes from the back and stops at the last value that fails it: the place behind that one is the place reached, or the first place where none fails.
+-- The library's walk from the back over the numbers below n, by a closure that asks of what a function gives at each: it stops at the last value that fails a test.
+-- The place behind that one is the place reached, or the first place where none fails.
 use Rattle.std.specs.Prelude.{ℕ, zero, suc, ◌+◌, ◌-◌, ◌≤◌, ◌<◌, Bool, true, false, not, ◌&&◌, List, [], ◌∷◌, ◌≡◌, refl, ltb, length, drop, Option, Some, None, MatchOption}
 use Rattle.std.specs.declared.ops.Range.{Range}
 use Rattle.std.specs.List.{FoldsTo}
@@ -16,20 +16,9 @@ use denote.Param.Members.{Mut}
 use borrow.Author.Tests.{ltb-true, ltb-false}
 use Rattle.rules.specs.Lists.{any, all}
 use Rattle.laws.specs.Tests.{split, and_both}
-use Rattle.laws.specs.Walks.{any_range}
+use Rattle.laws.specs.Walks.{below}
 use Rattle.laws.specs.Tabs.{tab, length_tab, get_or_tab, drop_tab}
 use Rattle.certifying.specs.Places.{Reached}
-
--- The numbers below n.
-abbrev below : ℕ → Range ℕ
-below n = record { start = 0; end = n }
-
--- A test asked of each of the first n values, until one passes.
-pub asked_each : {A F : Type 0} {g : Mut F (ℕ × Unit {0}) Bool} (test : A → Bool) (f : ℕ → A) (asked : F)
-    → ((x : ℕ) (b : Bool) (q : F) → Called g asked (x, tt) b q → (q ≡ asked) × (b ≡ test (f x)))
-    → (n : ℕ) (u : Range ℕ) (r : Bool) → ChecksAny nat_range_steps g (below n) asked r u → r ≡ any test (tab n f)
-asked_each test f asked says n u r d =
-    any_from_yields_List (λ i. test (f i)) u asked r d (YieldsList-from_range 0 n n refl (omega arith)) says ∙ any_range test f n
 
 module _ {A : Type 0} (pass : A → Bool) where
   all_pass : (n : ℕ) (f : ℕ → A) → ((j : ℕ) → j < n → pass (f j) ≡ true) → all pass (tab n f) ≡ true

@@ -1,6 +1,8 @@
 // What is lent: the two tables of a ledger, and a transaction that is delivered.
-ghost use Rattle.std.specs.Prelude.{◌≤◌, length};
+ghost use Rattle.std.specs.Prelude.{◌≤◌, ◌≡◌, length};
 ghost use Rattle.tables.specs.Layout.{book_words, sums_words};
+
+use crate::Book;
 
 // Two tables to read, of any length and with anything in them.
 #[derive(Clone, Copy)]
@@ -16,6 +18,15 @@ pub struct Ledger<'a> {
     pub sums: &'a mut [i64],
     pub ghost long: { book_words ≤ length book.now },
     pub ghost long_sums: { sums_words ≤ length sums.now },
+}
+
+impl Ledger<'_> {
+    // Its book, to read.
+    pub fn as_book(&self) -> Book<'_>
+        ensures { result.words.now ≡ self.now.book.now }
+    {
+        Book { words: self.book }
+    }
 }
 
 // A transaction as it is delivered: the keys read, the keys written, and an amount for each key written.
