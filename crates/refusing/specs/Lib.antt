@@ -1,3 +1,4 @@
+pub mod Told
 pub mod Operands
 pub mod Numbers
 pub mod Indexed

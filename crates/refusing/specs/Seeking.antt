@@ -1,59 +1,23 @@
--- The search for an identity's row: the index looked for is the rows passed and the index among those still to come.
-use Rattle.std.specs.Prelude.{ℕ, suc, ◌+◌, ◌≤◌, ◌<◌, false, List, [], ◌∷◌, ◌≡◌, refl, eqb, ltb, ℤ, length, drop, get_or}
-use Rattle.std.proofs.Common.{sym, ap, ◌∙◌, add-one, arith, eq-eqb, ne_eqb, lt-ltb, le-ltb, drop_of_length-le, drop-cons}
+-- The search for an identity's row: it is the first that has the identity, or none has it.
+use Rattle.std.specs.Prelude.{ℕ, zero, suc, ◌+◌, false, cond, List, [], ◌∷◌, ◌≡◌, refl, Some, None, eqb, ltb, ℤ, length, get_or}
+use Rattle.std.specs.declared.option.Option as code
+use Rattle.std.specs.List.{range_with_len, position_or_len}
+use Rattle.std.proofs.lemmas.List.FromFn.{length-range_with_len}
+use Rattle.std.proofs.Common.{sym, ap, ◌∙◌, arith, lt-ltb, le-ltb}
 use Rattle.rules.specs.Lists.{any}
 use Rattle.rules.specs.Refusals.{waits_for}
 use Rattle.laws.specs.Tests.{split, or_left, or_right}
-use Rattle.laws.specs.Tabs.{tab, length_tab, get_or_tab}
+use Rattle.laws.specs.Cuts.{get_or_cut}
+use Rattle.laws.specs.Tabs.{tab, length_tab}
 use Rattle.tables.specs.Layout.{waiting_row, waiting_at}
-use Rattle.tables.specs.View.{view}
+use Rattle.tables.specs.View.{waiting_words, view}
 use Rattle.refusing.specs.Operands.{index_of, waiting_identities}
 use Rattle.refusing.specs.Indexed.{waits_here, row_of}
 
-pub record Seeking (x n : ℕ) (g : ℕ → ℕ) (i : ℕ) : Type 0 where
-  pub most : i ≤ n
-  pub same : index_of x (tab n g) ≡ i + index_of x (drop i (tab n g))
-
-pub seeking_start : (x n : ℕ) (g : ℕ → ℕ) → Seeking x n g 0
-seeking_start x n g = record { most = omega arith; same = omega arith }
-
--- The row looked at stands in front of those still to come.
-here : (n : ℕ) (g : ℕ → ℕ) (i : ℕ) → i < n → drop i (tab n g) ≡ g i ∷ drop (i + 1) (tab n g)
-here n g i low =
-    let within : i < length (tab n g) = rw (length_tab n g) low in
-    rw add-one (drop-cons (tab n g) i 0 within ∙ ap (λ (x : ℕ). x ∷ drop (suc i) (tab n g)) (get_or_tab n g i 0 low))
-
--- An index, by what stands in front.
-index_none : (x : ℕ) → index_of x [] ≡ 0
-unfolding index_of
-index_none x = refl
-
-index_first : (x y : ℕ) (ys : List ℕ) → y ≡ x → index_of x (y ∷ ys) ≡ 0
-unfolding index_of
-index_first x y ys e = rw (eq-eqb y x e)
-
-index_later : (x y : ℕ) (ys : List ℕ) → (y ≡ x → ⊥) → index_of x (y ∷ ys) ≡ suc (index_of x ys)
-unfolding index_of
-index_later x y ys other = rw (ne_eqb y x other)
-
-pub seeking_found : {x n : ℕ} {g : ℕ → ℕ} {i : ℕ} → Seeking x n g i → i < n → g i ≡ x → i ≡ index_of x (tab n g)
-seeking_found {x} {n} {g} {i} walk low e =
-    let first : index_of x (drop i (tab n g)) ≡ 0 = ap (index_of x) (here n g i low) ∙ index_first x (g i) _ e in
-    let all = walk.same in
-    omega arith
-
-pub seeking_next : {x n : ℕ} {g : ℕ → ℕ} {i : ℕ} → Seeking x n g i → i < n → (g i ≡ x → ⊥) → Seeking x n g (i + 1)
-seeking_next {x} {n} {g} {i} walk low other =
-    let later : index_of x (drop i (tab n g)) ≡ suc (index_of x (drop (i + 1) (tab n g))) = ap (index_of x) (here n g i low) ∙ index_later x (g i) _ other in
-    let all = walk.same in
-    record { most = omega arith; same = omega arith }
-
-pub seeking_end : {x n : ℕ} {g : ℕ → ℕ} {i : ℕ} → Seeking x n g i → n ≤ i → i ≡ index_of x (tab n g)
-seeking_end {x} {n} {g} {i} walk past =
-    let beyond : length (tab n g) ≤ i = rw (length_tab n g) past in
-    let nothing : index_of x (drop i (tab n g)) ≡ 0 = ap (index_of x) (drop_of_length-le (tab n g) beyond) ∙ index_none x in
-    let all = walk.same in
-    omega arith
+-- The row of an identity that waits, if one has it.
+abbrev pub waiting_row_of : ℕ → List ℕ → code.Option ℕ
+waiting_row_of x book =
+    cond (ltb (index_of x (waiting_identities book)) (get_or book waiting_at 0)) (Some (index_of x (waiting_identities book))) None
 
 -- The index of a number that isn't there is the length.
 index_missing : (x : ℕ) (ys : List ℕ) → any (λ y. eqb y x) ys ≡ false → index_of x ys ≡ length ys
@@ -74,3 +38,27 @@ waits_below x book sums =
     let missing = index_missing x (waiting_identities book) (sym (waits_here x book sums) ∙ q) in
     let number = length_tab (get_or book waiting_at 0) (λ i. get_or book (waiting_row i) 0) in
     q ∙ sym (le-ltb (index_of x (waiting_identities book)) (get_or book waiting_at 0) (omega arith)))
+
+-- The library's search of a range of rows, as the index among the identities of them all.
+module _ (x : ℕ) (g : ℕ → ℕ) where
+  index_from : (h : ℕ → ℕ) (a n : ℕ) → ((i : ℕ) → g (a + i) ≡ h i) → position_or_len (λ i. eqb (g i) x) (range_with_len a n) ≡ index_of x (tab n h)
+  unfolding tab index_of
+  index_from h a zero same = refl
+  index_from h a (suc n) same =
+      let first : g a ≡ h 0 = ap g (omega arith) ∙ same 0 in
+      let later = index_from (λ i. h (suc i)) (a + 1) n (λ i. ap g (omega arith) ∙ same (suc i)) in
+      split (eqb (h 0) x) (λ q. rw (first, q)) (λ q. rw (first, q, later) (omega arith))
+
+identity_word : (book : List ℕ) (i : ℕ) → get_or (waiting_words book i) 0 0 ≡ get_or book (waiting_row i) 0
+unfolding waiting_words
+identity_word book i = get_or_cut (waiting_row i) 24 book 0 0 (omega arith) ∙ ap (λ (o : ℕ). get_or book o 0) (omega arith)
+
+pub found_row : (x n : ℕ) (book : List ℕ) → n ≡ get_or book waiting_at 0 → {r : code.Option ℕ}
+    → r ≡ cond (ltb (position_or_len (λ i. eqb (get_or (waiting_words book i) 0 0) x) (range_with_len 0 n)) (length (range_with_len 0 n)))
+    (Some (position_or_len (λ i. eqb (get_or (waiting_words book i) 0 0) x) (range_with_len 0 n))) None
+    → r ≡ waiting_row_of x book
+unfolding waiting_identities
+found_row x n book all e =
+    let same = index_from x (λ i. get_or (waiting_words book i) 0 0) (λ i. get_or book (waiting_row i) 0) 0 n
+    (λ i. ap (λ (j : ℕ). get_or (waiting_words book j) 0 0) (omega arith) ∙ identity_word book i) in
+    e ∙ rw (same, length-range_with_len 0 n, all)

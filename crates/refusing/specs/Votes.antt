@@ -1,5 +1,5 @@
 -- A vote's numbers, 9 to 11, on the words of one row. The rules ask every waiting entry of the identity; identities differ, so that is one row.
-use Prim.Native.Nat.{ℕ, zero, suc, ◌+◌, ◌≤◌, ◌<◌}
+use Prim.Native.Nat.{ℕ, zero, suc, ◌+◌, ◌<◌}
 use Rattle.std.specs.Prelude.{Bool, true, false, cond, ◌&&◌, ◌||◌, ◌≡◌, eqb, leb, ℤ}
 use Rattle.std.proofs.Math.Bool.{not}
 use mathlib.Core.List.{List}
@@ -68,34 +68,9 @@ row_number i p book =
 unfoldable pub vote_words : ℕ → ℕ → List ℕ → ℕ
 vote_words identity p book = row_number (index_of identity (waiting_identities book)) p book
 
--- Each way out, behind the tests before it.
-module _ (identity p : ℕ) (book : List ℕ) {row : ℕ} (found : row ≡ index_of identity (waiting_identities book)) where
-  pub none_waits : get_or book waiting_at 0 ≤ row → 9 ≡ vote_words identity p book
-  unfolding vote_words row_number
-  none_waits h = rw (← found, le-leb (get_or book waiting_at 0) row h)
-
-  module _ (waits : row < get_or book waiting_at 0) where
-    pub not_involved : other (get_or book own_at 0) (get_or book (waiting_row row + 1) 0) p ≡ false → 10 ≡ vote_words identity p book
-    unfolding vote_words row_number
-    not_involved h = rw (← found, lt-leb (get_or book waiting_at 0) row waits, h)
-
-    module _ (involved : other (get_or book own_at 0) (get_or book (waiting_row row + 1) 0) p ≡ true) where
-      pub said_yes : names (get_or book (waiting_row row + 4) 0) p ≡ true → 11 ≡ vote_words identity p book
-      unfolding vote_words row_number
-      said_yes h = rw (← found, lt-leb (get_or book waiting_at 0) row waits, involved, h)
-
-      module _ (no_yes : names (get_or book (waiting_row row + 4) 0) p ≡ false) where
-        pub said_no : names (get_or book (waiting_row row + 5) 0) p ≡ true → 11 ≡ vote_words identity p book
-        unfolding vote_words row_number
-        said_no h = rw (← found, lt-leb (get_or book waiting_at 0) row waits, involved, no_yes, h)
-
-        pub vote_taken : names (get_or book (waiting_row row + 5) 0) p ≡ false → 0 ≡ vote_words identity p book
-        unfolding vote_words row_number
-        vote_taken h = rw (← found, lt-leb (get_or book waiting_at 0) row waits, involved, no_yes, h)
-
 -- They are the rules'.
 module _ (book : List ℕ) (sums : List ℤ) where
-  word : (i j : ℕ) → j < 24 → get_or (waiting_words book i) j 0 ≡ get_or book (waiting_row i + j) 0
+  pub word : (i j : ℕ) → j < 24 → get_or (waiting_words book i) j 0 ≡ get_or book (waiting_row i + j) 0
   unfolding waiting_words
   word i j low = get_or_cut (waiting_row i) 24 book j 0 low
 

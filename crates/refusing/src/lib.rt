@@ -1,29 +1,23 @@
-// Which number refuses an operation on lent tables, 0 for none: each check in its order, by early returns. Any tables and any numbers may be lent: the
-// lengths are looked at first, then soundness, and only then what the tables hold.
+// Which refusal an operation on lent tables meets, if any: each check in its order, by early returns. Any tables and any numbers may be lent: the lengths
+// are looked at first, then soundness, and only then what the tables hold.
 #![tactic(auto)]
 
-ghost use Rattle.std.specs.Prelude.{◌≤◌, ◌<◌, ◌≡◌, length, get_or};
-ghost use Rattle.rules.specs.Events.{at, newest};
-ghost use Rattle.laws.specs.Tabs.{tab};
-ghost use Rattle.tables.specs.Layout.{book_words, waiting_row};
-ghost use Rattle.refusing.specs.Operands.{short, delivery_number, vote_number, change_number, read_number, opening_number, index_of};
-ghost use Rattle.refusing.specs.Lending.{Sized, unusable, lending_number};
-ghost use Rattle.refusing.specs.Snapshots.{snapshot_number, read_words};
+ghost use Rattle.std.specs.Prelude.{◌≤◌, Bool, ◌≡◌, cond, get_or, unwrap_or, IfOk};
+ghost use Rattle.rules.specs.Events.{snapshot};
+ghost use Rattle.tables.specs.Layout.{partitions_at, own_at, sc_at, waiting_at};
+ghost use Rattle.tables.specs.View.{view};
+ghost use Rattle.refusing.specs.Told.{told};
+ghost use Rattle.refusing.specs.Operands.{short, delivery_number, vote_number, change_number, read_number, opening_number, index_of, waiting_identities};
+ghost use Rattle.refusing.specs.Lending.{unusable, lending_number};
+ghost use Rattle.refusing.specs.Seeking.{waiting_row_of};
+ghost use Rattle.refusing.specs.Snapshots.{snapshot_number, read_words, asked};
 ghost use Rattle.refusing.specs.Deliveries.{late, operand_number, delivery_words};
 ghost use Rattle.refusing.specs.Votes.{vote_words};
 
-use tables::{BOOK, COUNTERS, ROW, SUMS};
+mod refusals;
 
-// The counters, by their places in the book.
-const PARTITIONS: usize = 0;
-
-const OWN: usize = 1;
-
-const SC: usize = 2;
-
-const DC: usize = 3;
-
-const WAITING: usize = 5; // how many wait
+pub use refusals::Refusal;
+use tables::{BOOK, Book, Lent, SUMS, Transaction};
 
 // What is asked of a row here, by its place in the row.
 const SET: usize = 1; // its partition set
@@ -47,252 +41,199 @@ const MOST_DC: u32 = 4000000000;
 
 const ROOM: usize = 64; // a finish list of 32 entries, two words each
 
+// Words of a sound state: the sizes that the checks of an event go by hold of them.
+#[derive(Clone, Copy)]
+struct Usable<'a> {
+    book: Book<'a>,
+    ghost few_partitions: { get_or book.words.now partitions_at 0 ≤ 8 },
+    ghost few_waiting: { get_or book.words.now waiting_at 0 ≤ 32 },
+}
+
 // "a lent table too short"
-fn are_short(book: &[u32], sums: &[i64]) -> bool
-    ensures { result ≡ short book.now sums.now }
+#[tactic(auto, unfolding(crate::specs::Operands::short))]
+fn check_lengths(lent: Lent<'_>) -> Result<Book<'_>, Refusal>
+    ensures number { told result ≡ cond (short lent.entry.book.now lent.entry.sums.now) 13 0 }
+    ensures book { IfOk result (λ b. b.words.now ≡ lent.entry.book.now) }
 {
-    if book.len() < BOOK {
-        return true;
+    if lent.book.len() < BOOK || lent.sums.len() < SUMS {
+        return Err(Refusal::Unusable);
     }
-    sums.len() < SUMS
+    Ok(Book { words: lent.book })
 }
 
 // 13, for any event: "a lent table too short", "state not sound".
-fn is_unusable(book: &[u32], sums: &[i64]) -> bool
-    ensures { result ≡ unusable book.now sums.now }
+#[tactic(auto, using(crate::specs::Lending::few_partitions, crate::specs::Lending::few_waiting), unfolding(crate::specs::Lending::unusable, crate::specs::Operands::short))]
+fn check_tables(lent: Lent<'_>) -> Result<Usable<'_>, Refusal>
+    ensures number { told result ≡ cond (unusable lent.entry.book.now lent.entry.sums.now) 13 0 }
+    ensures book { IfOk result (λ u. u.book.words.now ≡ lent.entry.book.now) }
 {
-    if are_short(book, sums) {
-        return true;
+    let book = check_lengths(lent)?;
+    if !checking::is_sound(book, lent.sums) {
+        return Err(Refusal::Unusable);
     }
-    !checking::is_sound(book, sums)
+    Ok(Usable { book })
 }
 
-// "Then come 15 and 13, in that order".
-fn lending_number(book: &[u32], sums: &[i64], words: usize) -> u32
-    ensures { result ≡ lending_number book.now sums.now words }
+// "Then come 15 and 13, in that order": too little room is refused whatever the tables hold.
+#[tactic(auto, unfolding(crate::specs::Lending::lending_number))]
+fn check_lending(lent: Lent<'_>, words: usize) -> Result<Usable<'_>, Refusal>
+    ensures number { told result ≡ lending_number lent.entry.book.now lent.entry.sums.now words }
+    ensures book { IfOk result (λ u. u.book.words.now ≡ lent.entry.book.now) }
 {
     if words < ROOM {
-        return 15;
+        return Err(Refusal::LittleRoom);
     }
-    if is_unusable(book, sums) { // behind 15: too little room is refused whatever the tables hold
-        return 13; // they are too short, or not sound
-    }
-    0
+    check_tables(lent)
 }
 
 // "st > SC", "st < floor": of a delivery and of a read.
-fn snapshot_number(st: u32, sc: u32) -> u32
-    ensures { result ≡ snapshot_number st sc }
+#[tactic(auto, unfolding(crate::specs::Snapshots::snapshot_number))]
+fn check_snapshot(st: u32, sc: u32) -> Result<(), Refusal>
+    ensures { told result ≡ snapshot_number st sc }
 {
     if sc < st {
-        return 5;
+        return Err(Refusal::SnapshotAhead);
     }
     if MOST_KEPT < sc - st {
-        return 6;
+        return Err(Refusal::SnapshotFolded);
     }
-    0
+    Ok(())
 }
 
-// The row of an identity, or how many wait where none has it.
-pub fn row_of(book: &[u32], n: usize, identity: u32) -> usize
-    requires book_words_in_bounds { book_words ≤ length book.now }
-    requires n_bound { n ≤ 32 }
-    ensures { result ≡ index_of identity (tab n (λ i. get_or book.now (waiting_row i) 0)) }
-{
-    let mut i: usize = 0;
-    while i < n {
-        if book[COUNTERS + ROW * i] == identity {
-            return i;
+impl Usable<'_> {
+    // The row of an identity among those that wait, if one has it.
+    fn row_of(self, identity: u32) -> Option<usize>
+        ensures { result ≡ waiting_row_of identity self.entry.book.words.now }
+    {
+        (0..self.book.waiting() as usize).position(|i| self.book.waiting_row(i)[0] == identity)
+    }
+
+    // A delivery's numbers 5 to 8.
+    #[tactic(auto, unfolding(crate::specs::Deliveries::late))]
+    fn check_late(self, st: u32) -> Result<(), Refusal>
+        ensures { told result ≡ late st self.entry.book.words.now }
+    {
+        check_snapshot(st, self.book.sc())?;
+        if MOST_WAITING <= self.book.waiting() {
+            return Err(Refusal::FullList);
         }
-        i += 1;
+        if self.book.dc() == MOST_DC {
+            return Err(Refusal::LastDelivery);
+        }
+        Ok(())
     }
-    i
+
+    // A delivery's numbers 1 to 3, of what is lent with it.
+    #[tactic(auto, unfolding(crate::specs::Deliveries::operand_number))]
+    fn check_operands(self, t: Transaction<'_>) -> Result<(), Refusal>
+        ensures { told result ≡ operand_number (get_or self.entry.book.words.now partitions_at 0) (get_or self.entry.book.words.now own_at 0) t.entry.set t.entry.reads.now t.entry.keys.now }
+    {
+        if masks::is_bad_set(t.set, self.book.partitions(), self.book.own()) {
+            return Err(Refusal::PartitionSet);
+        }
+        if MOST_KEYS < t.reads.len() || MOST_KEYS < t.keys.len() {
+            return Err(Refusal::ManyKeys);
+        }
+        if keys::is_bad(t.reads) || keys::is_bad(t.keys) {
+            return Err(Refusal::Key);
+        }
+        Ok(())
+    }
+
+    // A delivery's numbers.
+    #[tactic(auto, unfolding(crate::specs::Deliveries::delivery_words))]
+    fn check_delivery(self, t: Transaction<'_>) -> Result<(), Refusal>
+        ensures { told result ≡ delivery_words t.entry.identity t.entry.set t.entry.st t.entry.reads.now t.entry.keys.now self.entry.book.words.now }
+    {
+        self.check_operands(t)?;
+        if t.identity == 0 || self.row_of(t.identity).is_some() {
+            return Err(Refusal::Identity);
+        }
+        self.check_late(t.st)
+    }
+
+    // A vote's numbers: those of the one row that has the identity.
+    #[tactic(auto, using(crate::specs::Votes::word, tables::specs::Good::waiting_whole), unfolding(crate::specs::Votes::vote_words, crate::specs::Votes::row_number))]
+    fn check_vote(self, identity: u32, p: u32) -> Result<usize, Refusal>
+        ensures number { told result ≡ vote_words identity p self.entry.book.words.now }
+        ensures row { IfOk result (λ i. i ≡ index_of identity (waiting_identities self.entry.book.words.now)) }
+    {
+        let i = self.row_of(identity).ok_or(Refusal::NotWaiting)?;
+        let row = self.book.waiting_row(i);
+        if !masks::is_other(row[SET], self.book.own(), p) {
+            return Err(Refusal::NotAsked);
+        }
+        if masks::has(row[AYES], p) || masks::has(row[NAYS], p) {
+            return Err(Refusal::HasVoted);
+        }
+        Ok(i)
+    }
+
+    // A read's numbers.
+    #[tactic(auto, unfolding(crate::specs::Snapshots::read_words))]
+    fn check_read(self, key: u32, st: Option<u32>) -> Result<u32, Refusal>
+        ensures number { told result ≡ read_words key (unwrap_or st (get_or self.entry.book.words.now sc_at 0)) (get_or self.entry.book.words.now sc_at 0) }
+        ensures version { IfOk result (λ v. v ≡ unwrap_or st (get_or self.entry.book.words.now sc_at 0)) }
+    {
+        let version = st.unwrap_or(self.book.sc());
+        if KEYS <= key {
+            return Err(Refusal::Key);
+        }
+        check_snapshot(version, self.book.sc())?;
+        Ok(version)
+    }
 }
 
-// A delivery's numbers 5 to 8.
-fn late_number(st: u32, book: &[u32]) -> u32
-    requires { Sized book.now }
-    ensures { result ≡ late st book.now }
+// Whether a delivery is refused. Its keys and amounts agree in number, or the tables count as too short.
+#[tactic(auto, using(crate::specs::Ways::delivery_decided))]
+pub fn check_delivery(t: Transaction<'_>, lent: Lent<'_>, words: usize) -> Result<(), Refusal>
+    ensures { told result ≡ delivery_number t.entry.identity t.entry.set t.entry.st t.entry.reads.now t.entry.keys.now t.entry.amounts.now lent.entry.book.now lent.entry.sums.now words }
 {
-    let refused = snapshot_number(st, book[SC]);
-    if refused != 0 {
-        return refused;
+    let usable = check_lending(lent, words)?;
+    if t.amounts.len() != t.keys.len() {
+        return Err(Refusal::Unusable);
     }
-    if MOST_WAITING <= book[WAITING] {
-        return 7;
-    }
-    if book[DC] == MOST_DC {
-        return 8;
-    }
-    0
+    usable.check_delivery(t)
 }
 
-// A delivery's numbers 1 to 3, of what is lent with it.
-fn operand_number(partitions: u32, own: u32, set: u32, reads: &[u32], keys: &[u32]) -> u32
-    requires { partitions ≤ 8 }
-    ensures { result ≡ operand_number partitions own set reads.now keys.now }
+// Whether a vote is refused, be it yes or no. The row of the identity is handed back, so that nobody looks for it twice.
+#[tactic(auto, using(crate::specs::Ways::vote_decided))]
+pub fn check_vote(identity: u32, p: u32, lent: Lent<'_>, words: usize) -> Result<usize, Refusal>
+    ensures number { (agrees : Bool) → told result ≡ vote_number identity p agrees lent.entry.book.now lent.entry.sums.now words }
+    ensures row { IfOk result (λ i. i ≡ index_of identity (waiting_identities lent.entry.book.now)) }
 {
-    if masks::is_bad_set(set, partitions, own) {
-        return 1;
-    }
-    if MOST_KEYS < reads.len() {
-        return 2;
-    }
-    if MOST_KEYS < keys.len() {
-        return 2;
-    }
-    if keys::is_bad(reads) {
-        return 3;
-    }
-    if keys::is_bad(keys) {
-        return 3;
-    }
-    0
+    check_lending(lent, words)?.check_vote(identity, p)
 }
 
-// A delivery's numbers, on tables that are sound.
-fn delivery_refusal(
-    identity: u32,
-    set: u32,
-    st: u32,
-    reads: &[u32],
-    keys: &[u32],
-    book: &[u32],
-) -> u32
-    requires { Sized book.now }
-    ensures { result ≡ delivery_words identity set st reads.now keys.now book.now }
+// Whether a threshold change is refused.
+#[tactic(auto, using(crate::specs::Ways::change_decided))]
+pub fn check_change(k: u32, lent: Lent<'_>, words: usize) -> Result<(), Refusal>
+    ensures { told result ≡ change_number k lent.entry.book.now lent.entry.sums.now words }
 {
-    let refused = operand_number(book[PARTITIONS], book[OWN], set, reads, keys);
-    if refused != 0 {
-        return refused;
-    }
-    if identity == 0 {
-        return 4;
-    }
-    let n = book[WAITING] as usize;
-    if row_of(book, n, identity) < n {
-        return 4;
-    }
-    late_number(st, book)
-}
-
-// A vote's numbers, on tables that are sound: those of the one row that has the identity.
-fn vote_refusal(identity: u32, p: u32, book: &[u32]) -> u32
-    requires { Sized book.now }
-    ensures { result ≡ vote_words identity p book.now }
-{
-    let n = book[WAITING] as usize;
-    let row = row_of(book, n, identity);
-    if n <= row {
-        return 9;
-    }
-    let o = COUNTERS + ROW * row;
-    let own = book[OWN];
-    if !masks::is_other(book[o + SET], own, p) {
-        return 10;
-    }
-    if masks::has(book[o + AYES], p) {
-        return 11;
-    }
-    if masks::has(book[o + NAYS], p) {
-        return 11;
-    }
-    0
-}
-
-// A read's numbers.
-fn read_refusal(key: u32, st: u32, sc: u32) -> u32
-    ensures { result ≡ read_words key st sc }
-{
-    if KEYS <= key {
-        return 3;
-    }
-    snapshot_number(st, sc)
-}
-
-pub fn delivery_number(
-    identity: u32,
-    set: u32,
-    st: u32,
-    reads: &[u32],
-    keys: &[u32],
-    amounts: &[i64],
-    book: &[u32],
-    sums: &[i64],
-    words: usize,
-) -> u32
-    ensures { result ≡ delivery_number identity set st reads.now keys.now amounts.now book.now sums.now words }
-{
-    let refused = lending_number(book, sums, words);
-    if refused != 0 {
-        return refused;
-    }
-    if amounts.len() != keys.len() {
-        return 13;
-    }
-    delivery_refusal(identity, set, st, reads, keys, book)
-}
-
-pub fn vote_number(
-    identity: u32,
-    p: u32,
-    agrees: bool,
-    book: &[u32],
-    sums: &[i64],
-    words: usize,
-) -> u32
-    ensures { result ≡ vote_number identity p agrees book.now sums.now words }
-{
-    let refused = lending_number(book, sums, words);
-    if refused != 0 {
-        return refused;
-    }
-    vote_refusal(identity, p, book)
-}
-
-pub fn change_number(k: u32, book: &[u32], sums: &[i64], words: usize) -> u32
-    ensures { result ≡ change_number k book.now sums.now words }
-{
-    let refused = lending_number(book, sums, words);
-    if refused != 0 {
-        return refused;
-    }
+    check_lending(lent, words)?;
     if MOST_K < k {
-        return 12;
+        return Err(Refusal::Threshold);
     }
-    0
+    Ok(())
 }
 
-// A read at a given st.
-pub fn read_number(key: u32, st: u32, book: &[u32], sums: &[i64]) -> u32
-    ensures { result ≡ read_number key (at st) book.now sums.now }
+// Whether a read is refused, at a given st or where none is given at SC. The version to read at is handed back.
+#[tactic(auto, using(crate::specs::Ways::read_decided, crate::specs::Snapshots::asked_version))]
+pub fn check_read(key: u32, st: Option<u32>, lent: Lent<'_>) -> Result<u32, Refusal>
+    ensures number { told result ≡ read_number key (asked st) lent.entry.book.now lent.entry.sums.now }
+    ensures version { IfOk result (λ v. v ≡ snapshot (asked st) (view lent.entry.book.now lent.entry.sums.now)) }
 {
-    if is_unusable(book, sums) {
-        return 13;
-    }
-    read_refusal(key, st, book[SC])
-}
-
-// A read at SC.
-pub fn newest_number(key: u32, book: &[u32], sums: &[i64]) -> u32
-    ensures { result ≡ read_number key newest book.now sums.now }
-{
-    if is_unusable(book, sums) {
-        return 13;
-    }
-    let sc = book[SC];
-    read_refusal(key, sc, sc)
+    check_tables(lent)?.check_read(key, st)
 }
 
 // "opening: sizes outside the table", "either: a lent table too short".
-pub fn opening_number(partitions: u32, own: u32, k: u32, book: &[u32], sums: &[i64]) -> u32
-    ensures { result ≡ opening_number partitions own k book.now sums.now }
+#[tactic(auto, unfolding(crate::specs::Operands::opening_number))]
+pub fn check_opening(partitions: u32, own: u32, k: u32, lent: Lent<'_>) -> Result<(), Refusal>
+    ensures { told result ≡ opening_number partitions own k lent.entry.book.now lent.entry.sums.now }
 {
-    if are_short(book, sums) {
-        return 13;
-    }
+    check_lengths(lent)?;
     if !checking::sizes_fit(partitions, own, k) {
-        return 13;
+        return Err(Refusal::Unusable);
     }
-    0
+    Ok(())
 }
