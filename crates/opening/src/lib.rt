@@ -1,52 +1,21 @@
 // Opening: every word and amount that the state needs is cleared, and the sizes are stored.
 #![tactic(auto)]
 
-ghost use Rattle.std.specs.Prelude.{◌≤◌, ◌≡◌, pos, length, set};
-ghost use Rattle.laws.specs.Cuts.{put};
-ghost use Rattle.tables.specs.Layout.{book_words, sums_words};
-ghost use Rattle.tables.specs.Opened.{blank, opened_book, opened_sums};
+ghost use Rattle.std.specs.Prelude.{◌≡◌};
+ghost use Rattle.tables.specs.Opened.{opened_book, opened_sums};
 
-// The first n words cleared.
-fn clear(t: &mut [u32], n: usize)
-    requires { n ≤ length t.old }
-    ensures { t.new ≡ put t.old 0 (blank n 0) }
-{
-    let mut j: usize = 0;
-    while j < n {
-        t[j] = 0;
-        j += 1;
-    }
-}
+use moves::lay;
+use tables::{BOOK, COUNTERS, Ledger, SUMS};
 
-// The first n amounts cleared.
-fn clear_sums(t: &mut [i64], n: usize)
-    requires { n ≤ length t.old }
-    ensures { t.new ≡ put t.old 0 (blank n (pos 0)) }
+// The counters have the number of partitions, our own, and k; SC, DC and how many wait are 0, and so is every word and amount behind them.
+#[tactic(auto, using(crate::specs::Clearing::book_opened, crate::specs::Clearing::sums_opened))]
+pub fn open_tables(ledger: &mut Ledger<'_>, partitions: u32, own: u32, k: u32)
+    ensures same_book { ledger.new.book.ghost_name ≡ ledger.old.book.ghost_name }
+    ensures same_sums { ledger.new.sums.ghost_name ≡ ledger.old.sums.ghost_name }
+    ensures book_after { ledger.new.book.now ≡ opened_book ledger.old.book.now partitions own k }
+    ensures sums_after { ledger.new.sums.now ≡ opened_sums ledger.old.sums.now }
 {
-    let mut j: usize = 0;
-    while j < n {
-        t[j] = 0;
-        j += 1;
-    }
-}
-
-// The number of partitions, our own, and k.
-fn store_sizes(book: &mut [u32], partitions: u32, own: u32, k: u32)
-    requires { book_words ≤ length book.old }
-    ensures { book.new ≡ set (set (set book.old 0 partitions) 1 own) 4 k }
-{
-    book[0] = partitions;
-    book[1] = own;
-    book[4] = k;
-}
-
-pub fn open_tables(book: &mut [u32], sums: &mut [i64], partitions: u32, own: u32, k: u32)
-    requires book_words_in_bounds { book_words ≤ length book.old }
-    requires sums_words_in_bounds { sums_words ≤ length sums.old }
-    ensures book_after { book.new ≡ opened_book book.old partitions own k }
-    ensures sums_after { sums.new ≡ opened_sums sums.old }
-{
-    clear(book, tables::BOOK);
-    store_sizes(book, partitions, own, k);
-    clear_sums(sums, tables::SUMS);
+    lay(ledger.book, 0, &[partitions, own, 0, 0, k, 0]);
+    ledger.book[COUNTERS..BOOK].fill(0);
+    ledger.sums[..SUMS].fill(0);
 }
