@@ -1,2 +1,2 @@
--- Runs of stores, and what each step of a join leaves, over plain lists.
+-- What the steps of a join and of a vote leave, over plain lists.
 pub mod Stores
