@@ -1,14 +1,15 @@
 -- A delivery on the tables, where none is refused: the newcomer's row, closing, the counters. The state and the finishes after it are the rules'.
-use Prim.Native.Nat.{ℕ, suc, ◌+◌, ◌*◌, ◌≤◌, ◌<◌}
+use Prim.Native.Nat.{ℕ, suc, ◌+◌, ◌-◌, ◌*◌, ◌≤◌, ◌<◌}
 use Rattle.std.specs.Prelude.{Bool, true, false, ◌≡◌, ℤ, get_or}
 use mathlib.Core.List.{List}
-use Rattle.std.proofs.Common.{⊎_elim, ◌∙◌, ltb-false, leb-false}
+use Rattle.std.proofs.Common.{⊎_elim, ◌∙◌, subst, ltb-false, leb-false}
 use Rattle.std.proofs.Math.Option.{none}
 use Rattle.std.proofs.Math.Path.{refl, ap, ap₂}
 use native.Mathlib.Omega.{arith}
 use Rattle.std.proofs.Math.Dec.{eqb}
 use Rattle.std.proofs.Math.ListN.{length}
-use Rattle.rules.specs.Lists.{insert_at}
+use Rattle.rules.specs.Lists.{any, insert_at}
+use Rattle.rules.specs.Place.{place}
 use Rattle.rules.specs.Sizes.{most_keys, most_waiting, most_kept, floor}
 use Rattle.rules.specs.Partitions.{only, none_heard}
 use Rattle.rules.specs.Keys.{too_many}
@@ -17,17 +18,22 @@ use Rattle.rules.specs.Delivery.{ticked, entered, Fate, abort, join, fate, joine
 use Rattle.rules.specs.Closing.{close}
 use Rattle.rules.specs.Events.{Answer, waits, aborted, delivery, delivered, closing, deliver_at, deliver_with, accepted}
 use Rattle.rules.specs.Refusals.{refusal, checks, delivery_checks}
-use Rattle.laws.specs.Tests.{or_left, or_right}
+use Rattle.laws.specs.Tests.{split, or_left, or_right}
+use Rattle.laws.specs.Tabs.{tab}
 use Rattle.claims.specs.Refused.{none_applies}
 use Rattle.claims.specs.Fates.{fate_join_exactly}
 use Rattle.claims.specs.SoundParts.{Sound}
 use Rattle.claims.specs.Soundness.{joined_sound}
-use Rattle.engine.specs.declared.Send.{Send}
-use Rattle.engine.specs.declared.Delivered.{Delivered}
-use Rattle.engine.specs.declared.Delivered.TheVariants.{Waits, Aborted}
-use Rattle.engine.specs.Answers.{Result, Means, send_of, vote_said, delivered_said, delivered_finishes}
+use Rattle.std.specs.Prelude.{Ok, is_ok, not}
+use Rattle.std.proofs.Common.{Result}
+use Rattle.refusing.specs.declared.refusals.Refusal.{Refusal}
+use Rattle.engine.specs.declared.answers.Reason.{Reason}
+use Rattle.engine.specs.declared.answers.Delivered.{Delivered}
+use Rattle.engine.specs.Fates.{fate_of, fated, placed_fated, send_if, vote_said}
+use Rattle.engine.specs.Answers.{After, Means, delivered_said, delivered_finishes}
 use Rattle.tables.specs.Layout.{book_words, sums_words}
-use Rattle.tables.specs.View.{waiting_view, length_waiting, books_view, clock_view, view}
+use Rattle.tables.specs.Tested.{row_clash, row_blocks, row_passes}
+use Rattle.tables.specs.View.{waiting_words, kept_words, waiting_view, length_waiting, books_view, clock_view, view}
 use Rattle.tables.specs.NewRow.{first_words, newcomer}
 use Rattle.tables.specs.Joined.{joined_book, joined_sums, length_joined, length_joined_sums, joined_waiting, joined_books, joined_counter}
 use Rattle.tables.specs.Judged.{lent, lent_keys, row_fate, fate_row}
@@ -50,14 +56,14 @@ delivery_desk (join i) identity set st rt reads keys amounts book sums fin =
     }
 
 -- The answer, and all three tables.
-abbrev pub delivered_answer : ℕ → Send → ℕ → Fate → Delivered
-delivered_answer dc send finishes (abort reason) = Aborted dc reason send finishes
-delivered_answer dc send finishes (join i) = Waits dc i send finishes
+abbrev pub delivered_answer : Clock → ℕ → Result ℕ Reason → ℕ → Delivered
+delivered_answer c set fate finishes =
+    record { dc = c.dc; fate = fate; send = send_if (eqb set (only c.own)) (is_ok fate); finishes = finishes }
 
-unfoldable pub delivered_result : Clock → ℕ → Fate → Desk → Result Delivered
-delivered_result c set f d =
+unfoldable pub delivered_result : Clock → ℕ → Result ℕ Reason → Desk → After (Result Delivered Refusal)
+delivered_result c set fate d =
     record {
-      answer = delivered_answer c.dc (send_of (eqb set (only c.own)) f) (closed_desk c d).finished f;
+      answer = Ok (delivered_answer c set fate (closed_desk c d).finished);
       book = settled_book c d;
       sums = (closed_desk c d).sums;
       finishes = (closed_desk c d).finishes;
@@ -87,8 +93,8 @@ deliverable identity set st reads keys amounts book sums q =
     record { few_reads = r; few_keys = w; list_open = omega arith; taken = late; kept = omega arith }
 
 abbrev spoken : ℕ → Bool → Fate → Answer
-spoken dc l (abort reason) = aborted dc reason (vote_said (send_of l (abort reason)))
-spoken dc l (join i) = waits dc i (vote_said (send_of l (join i)))
+spoken dc l (abort reason) = aborted dc reason (vote_said (send_if l false))
+spoken dc l (join i) = waits dc i (vote_said (send_if l true))
 
 -- The rules' answer to a delivery, by its fate.
 rules_answer : (c : Clock) (l : Bool) (f : Fate) → spoken c.dc l f ≡ delivered c (vote_to_send l f) f
@@ -98,13 +104,22 @@ rules_answer c true (join i) = refl
 rules_answer c false (abort reason) = refl
 rules_answer c false (join i) = refl
 
-answer_said : (dc m : ℕ) (l : Bool) (f : Fate) → delivered_said (delivered_answer dc (send_of l f) m f) ≡ spoken dc l f
-answer_said dc m l (abort reason) = refl
-answer_said dc m l (join i) = refl
+-- The fates on rows are places and reasons 1 to 3: none is lost in the code's own type.
+pub fate_kept : (own dc sc n set st : ℕ) (reads keys book : List ℕ)
+    → fated (fate_of (row_fate own dc sc n set st reads keys book)) ≡ row_fate own dc sc n set st reads keys book
+unfolding row_fate
+fate_kept own dc sc n set st reads keys book =
+    split (any (row_clash (not (eqb set (only own))) reads keys) (tab (sc - st) (λ j. kept_words book (sc - j))))
+    (λ q. rw q)
+    (λ q. split (eqb set (only own))
+    (λ r. rw (q, r) (placed_fated (place (row_blocks reads) (row_passes own dc keys) (tab n (waiting_words book)))))
+    (λ r. split (any (row_clash (not (eqb set (only own))) reads keys) (tab n (waiting_words book))) (λ s. rw (q, s, r)) (λ s. rw (q, s, r))))
 
-answer_counts : (dc m : ℕ) (send : Send) (f : Fate) → delivered_finishes (delivered_answer dc send m f) ≡ m
-answer_counts dc m send (abort reason) = refl
-answer_counts dc m send (join i) = refl
+answer_said : (c : Clock) (set m : ℕ) (f : Fate) → fated (fate_of f) ≡ f
+    → delivered_said (Ok (delivered_answer c set (fate_of f) m)) ≡ spoken c.dc (eqb set (only c.own)) f
+answer_said c set m (abort reason) e =
+    ap (λ (g : Fate). spoken c.dc (eqb set (only c.own)) g) e
+answer_said c set m (join i) e = refl
 
 -- A place that is given lies within the list.
 place_within : (c : Clock) (t : Transaction) (waiting : List Entry) (b : Books) (i : ℕ) → fate c t waiting b ≡ join i → i ≤ length waiting
@@ -243,7 +258,7 @@ module _ (identity set st : ℕ) (reads keys : List ℕ) (amounts : List ℤ) (b
 
   -- What a delivery on the tables means: the rules' delivery of the state that they hold.
   pub delivery_means : (f : Fate) → the_fate ≡ f
-      → Means delivered_said delivered_finishes fin (delivered_result c set f (desk_at f)) (accepted (delivery t) (view book sums))
+      → Means delivered_said delivered_finishes fin (delivered_result c set (fate_of f) (desk_at f)) (accepted (delivery t) (view book sums))
   unfolding delivered_result accepted deliver_with deliver_at view is_local lent closing
   delivery_means f q =
       let d = desk_at f in
@@ -253,13 +268,13 @@ module _ (identity set st : ℕ) (reads keys : List ℕ) (amounts : List ℤ) (b
       let the_list = desk_list f q in
       let the_books = desk_books f q in
       let is = the_fate_is ∙ q in
+      let kept = subst (λ (g : Fate). fated (fate_of g) ≡ g) q (fate_kept c.own c.dc sc n set st reads keys book) in
       rw is
       (record {
-        says = answer_said c.dc (closed_desk c d).finished l f ∙ rules_answer c l f;
+        says = answer_said c set (closed_desk c d).finished f kept ∙ rules_answer c l f;
         state = settled_view c d ready a ∙ ap₂ (λ (es : List Entry) (b : Books). (closing a c es b).next) the_list the_books;
         told = settled_finishes c d ready
             ∙ ap₂ (λ (es : List Entry) (b : Books). put d.finishes 0 (words_of (close c es b).finishes)) the_list the_books
             ∙ ap (λ (l : List ℕ). put l 0 (words_of (close c (joined f (entered c t none_heard) (waiting_view n book sums)) (books_view sc book sums)).finishes)) (desk_finishes f);
-        counted = answer_counts c.dc (closed_desk c d).finished (send_of l f) f
-            ∙ (settled_count c d ready ∙ ap₂ (λ (es : List Entry) (b : Books). length (close c es b).finishes) the_list the_books);
+        counted = settled_count c d ready ∙ ap₂ (λ (es : List Entry) (b : Books). length (close c es b).finishes) the_list the_books;
       })

@@ -1,3 +1,4 @@
+pub mod Fates
 pub mod Answers
 pub mod Delivering
 pub mod Voting
@@ -8,4 +9,5 @@ pub mod Taking
 pub mod Storing
 pub mod Public
 pub mod Reads
+pub mod Named
 pub mod Meanings

@@ -20,12 +20,14 @@ use Rattle.tables.specs.Voted.{ballot}
 use Rattle.tables.specs.Judged.{lent}
 use Rattle.tables.specs.Closed.{words_of}
 use Rattle.checking.specs.SoundTables.{sound_tables}
-use Rattle.engine.specs.declared.Delivered.TheVariants.{Refused}
-use Rattle.engine.specs.declared.Changed.TheVariants.{Refused as change_refused}
-use Rattle.engine.specs.declared.Voted.TheVariants.{Refused as vote_refused}
-use Rattle.engine.specs.Answers.{Result, Means, delivered_said, delivered_finishes, voted_said, voted_finishes, changed_said, changed_finishes, reading_said, snapshot_said}
-use Rattle.engine.specs.declared.Snapshot.{Snapshot}
-use Rattle.engine.specs.declared.Opening.TheVariants.{Opened}
+use Rattle.std.specs.Prelude.{Ok, Err}
+use Rattle.std.proofs.Common.{Result, ◌∙◌}
+use Rattle.std.specs.declared.option.Option as code
+use Rattle.refusing.specs.declared.refusals.Refusal.{Refusal}
+use Rattle.refusing.specs.Told.{numbered, named}
+use Rattle.refusing.specs.Snapshots.{asked}
+use Rattle.engine.specs.Named.{desk_number}
+use Rattle.engine.specs.Answers.{After, Means, delivered_said, delivered_finishes, voted_said, changed_said, finishes_told, reading_said}
 use Rattle.engine.specs.Delivering.{delivery_means}
 use Rattle.engine.specs.Voting.{Lent, change_means, vote_means}
 use Rattle.refusing.specs.Operands.{number_of, short, lent_number, delivery_number, vote_number, index_of, waiting_identities, change_number, read_number, opening_number}
@@ -44,18 +46,19 @@ some_number none n e z = absurd (z (sym e))
 some_number (some m) n e z = ap some e
 
 -- An operation that goes by its number: the desk's refusal, or the event.
-module _ {A : Type 0} (said : A → rules.Answer) (count : A → ℕ) (refused : ℕ → A)
-    (says_refused : (n : ℕ) → said (refused n) ≡ rules.refused n) (counts_none : (n : ℕ) → count (refused n) ≡ 0) where
-  refused_means : (book : List ℕ) (sums : List ℤ) (fin : List ℕ) (n : ℕ)
-      → Means said count fin (left (refused n) book sums fin) (record { answer = rules.refused n; finishes = []; next = view book sums })
+module _ {A : Type 0} (said : Result A Refusal → rules.Answer) (count : Result A Refusal → ℕ)
+    (says_refused : (r : Refusal) → said (Err r) ≡ rules.refused (numbered r)) (counts_none : (r : Refusal) → count (Err r) ≡ 0) where
+  refused_means : (book : List ℕ) (sums : List ℤ) (fin : List ℕ) (n : ℕ) → numbered (named n) ≡ n
+      → Means said count fin (left (Err (named n)) book sums fin) (record { answer = rules.refused n; finishes = []; next = view book sums })
   unfolding words_of
-  refused_means book sums fin n =
-      record { says = says_refused n; state = refl; told = sym (put_nothing fin 0); counted = counts_none n }
+  refused_means book sums fin n e =
+      record { says = says_refused (named n) ∙ ap rules.refused e; state = refl; told = sym (put_nothing fin 0); counted = counts_none (named n) }
 
-  pub operation_means : (e : Event) (book : List ℕ) (sums : List ℤ) (fin : List ℕ) (r : Result A)
+  pub operation_means : (e : Event) (book : List ℕ) (sums : List ℤ) (fin : List ℕ) (r : After (Result A Refusal))
       → (lent_number (length fin) false e (view book sums) ≡ 0 → Means said count fin r (accepted e (view book sums)))
       → Means said count fin
-      (cond (eqb (lent_number (length fin) false e (view book sums)) 0) r (left (refused (lent_number (length fin) false e (view book sums))) book sums fin))
+      (cond (eqb (lent_number (length fin) false e (view book sums)) 0) r
+      (left (Err (named (lent_number (length fin) false e (view book sums)))) book sums fin))
       (desk (length fin / 2) e (view book sums))
   operation_means e book sums fin r k =
       let s = view book sums in
@@ -64,7 +67,7 @@ module _ {A : Type 0} (said : A → rules.Answer) (count : A → ℕ) (refused :
       (λ q. let z = eqb-true n 0 q in
       rw (q, desk_accepted (length fin / 2) e s (unrefused (length fin) e s z)) (k z))
       (λ q. let given = some_number (first_of (desk_checks (length fin / 2) e s)) n (sym (lent_number_is (length fin) e s)) (eqb-false n 0 q) in
-      rw (q, desk_refused (length fin / 2) e s given) (refused_means book sums fin n))
+      rw (q, desk_refused (length fin / 2) e s given) (refused_means book sums fin n (desk_number (length fin / 2) e s n given)))
 
 -- A finish list of 32 entries has 64 words.
 room_of : (words : ℕ) → ltb (words / 2) most_waiting ≡ false → 64 ≤ words
@@ -103,18 +106,18 @@ unfolding delivering delivery_number
 delivering_means identity set st reads keys amounts book sums fin long long_sums same =
     let e = delivery (lent identity set st reads keys amounts) in
     rw (long_enough book sums long long_sums, eq-eqb (length amounts) (length keys) same)
-    (operation_means delivered_said delivered_finishes Refused (λ n. refl) (λ n. refl) e book sums fin
+    (operation_means delivered_said delivered_finishes (λ r. refl) (λ r. refl) e book sums fin
     (delivered_on identity set st reads keys amounts book sums fin)
     (delivered_on_means identity set st reads keys amounts book sums fin long long_sums same))
 
 -- Vote.
 pub voting_means : (identity p : ℕ) (agrees : Bool) (book : List ℕ) (sums : List ℤ) (fin : List ℕ) → book_words ≤ length book → sums_words ≤ length sums
-    → Means voted_said voted_finishes fin (voting identity p agrees book sums fin) (desk (length fin / 2) (vote identity p (ballot agrees)) (view book sums))
+    → Means voted_said finishes_told fin (voting identity p agrees book sums fin) (desk (length fin / 2) (vote identity p (ballot agrees)) (view book sums))
 unfolding voting vote_number voted_on too_little_room
 voting_means identity p agrees book sums fin long long_sums =
     let e = vote identity p (ballot agrees) in
     rw (long_enough book sums long long_sums)
-    (operation_means voted_said voted_finishes vote_refused (λ n. refl) (λ n. refl) e book sums fin (voted_on identity p agrees book sums fin)
+    (operation_means voted_said finishes_told (λ r. refl) (λ r. refl) e book sums fin (voted_on identity p agrees book sums fin)
     (λ z. let c = clear (length fin) e (view book sums) z in
     let r = row_of identity book sums (vote_waits identity p (ballot agrees) book sums c.allowed) in
     vote_means book sums fin (lent_tables (length fin) e book sums fin long long_sums c (room_of (length fin) c.room)) identity
@@ -122,11 +125,11 @@ voting_means identity p agrees book sums fin long long_sums =
 
 -- Change.
 pub changing_means : (k : ℕ) (book : List ℕ) (sums : List ℤ) (fin : List ℕ) → book_words ≤ length book → sums_words ≤ length sums
-    → Means changed_said changed_finishes fin (changing k book sums fin) (desk (length fin / 2) (change k) (view book sums))
+    → Means changed_said finishes_told fin (changing k book sums fin) (desk (length fin / 2) (change k) (view book sums))
 unfolding changing change_number changed_on too_little_room
 changing_means k book sums fin long long_sums =
     rw (long_enough book sums long long_sums)
-    (operation_means changed_said changed_finishes change_refused (λ n. refl) (λ n. refl) (change k) book sums fin (changed_on k book sums fin)
+    (operation_means changed_said finishes_told (λ r. refl) (λ r. refl) (change k) book sums fin (changed_on k book sums fin)
     (λ z. let c = clear (length fin) (change k) (view book sums) z in
     change_means book sums fin (lent_tables (length fin) (change k) book sums fin long long_sums c (room_of (length fin) c.room)) k c.allowed))
 
@@ -137,23 +140,23 @@ unfolding accepted take_read view
 read_accepted key st book sums = refl
 
 -- Read: the answer is the rules'; nothing is lent to be changed.
-pub reading_means : (key : ℕ) (st : Snapshot) (book : List ℕ) (sums : List ℤ) → book_words ≤ length book → sums_words ≤ length sums
-    → reading_said (reading key st book sums) ≡ (desk 0 (read key (snapshot_said st)) (view book sums)).answer
+pub reading_means : (key : ℕ) (st : code.Option ℕ) (book : List ℕ) (sums : List ℤ) → book_words ≤ length book → sums_words ≤ length sums
+    → reading_said (reading key st book sums) ≡ (desk 0 (read key (asked st)) (view book sums)).answer
 unfolding reading read_number
 reading_means key st book sums long long_sums =
-    let e = read key (snapshot_said st) in
+    let e = read key (asked st) in
     let s = view book sums in
     let n = lent_number 0 false e s in
     rw (long_enough book sums long long_sums)
     (split (eqb n 0)
-    (λ q. rw (q, desk_accepted 0 e s (unrefused 0 e s (eqb-true n 0 q))) (read_accepted key (snapshot_said st) book sums))
+    (λ q. rw (q, desk_accepted 0 e s (unrefused 0 e s (eqb-true n 0 q))) (read_accepted key (asked st) book sums))
     (λ q. let given = some_number (first_of (desk_checks 0 e s)) n (sym (lent_number_is 0 e s)) (eqb-false n 0 q) in
-    rw (q, desk_refused 0 e s given)))
+    rw (q, desk_refused 0 e s given) (ap rules.refused (desk_number 0 e s n given))))
 
 -- Opening: the tables then hold the rules' opening, exactly when the sizes fit.
 pub opened_means : (partitions own k : ℕ) (book : List ℕ) (sums : List ℤ) → book_words ≤ length book → sums_words ≤ length sums
     → sizes_fit partitions own k ≡ true
-    → ((opened partitions own k book sums).answer ≡ Opened)
+    → ((opened partitions own k book sums).answer ≡ Ok tt)
     × (view (opened partitions own k book sums).book (opened partitions own k book sums).sums ≡ opening partitions own k)
 unfolding opened opening_number
 opened_means partitions own k book sums long long_sums fits =

@@ -12,7 +12,7 @@ use Rattle.rules.specs.Ledger.{State, Entry, sizes_fit}
 use Rattle.rules.specs.Events.{Event, delivery, vote, change, with_k}
 use Rattle.rules.specs.Refusals.{is_for, refusal, checks, vote_checks, too_little_room}
 use Rattle.laws.specs.Tests.{split, or_left, or_right, and_left}
-use Rattle.tables.specs.Layout.{book_words, sums_words, waiting_row}
+use Rattle.tables.specs.Layout.{book_words, sums_words}
 use Rattle.laws.specs.Cuts.{get_or_cut}
 use Rattle.laws.specs.Bits.{names_within}
 use Rattle.laws.specs.Tabs.{tab}
@@ -29,16 +29,14 @@ use Rattle.checking.specs.SoundTables.{sound_tables}
 use Rattle.refusing.specs.Operands.{short, lent_number, delivery_number, vote_number, change_number, opening_number, index_of, waiting_identities}
 use Rattle.refusing.specs.Numbers.{Clear, clear}
 use Rattle.refusing.specs.Indexed.{RowOf, row_of, vote_waits}
-use Rattle.engine.specs.declared.Delivered.{Delivered}
-use Rattle.engine.specs.declared.Delivered.TheVariants.{Refused}
-use Rattle.engine.specs.declared.Changed.{Changed}
-use Rattle.engine.specs.declared.Changed.TheVariants.{Refused as change_refused}
-use Rattle.engine.specs.declared.Voted.{Voted}
-use Rattle.engine.specs.declared.Voted.TheVariants.{Refused as vote_refused}
-use Rattle.engine.specs.declared.Opening.TheVariants.{Refused as opening_refused, Opened}
-use Rattle.engine.specs.Answers.{Result}
+use Rattle.std.specs.Prelude.{Ok, Err}
+use Rattle.std.proofs.Common.{Result}
+use Rattle.refusing.specs.declared.refusals.Refusal.{Refusal}
+use Rattle.refusing.specs.Told.{numbered, named_numbered, some_number}
+use Rattle.engine.specs.declared.answers.Delivered.{Delivered}
+use Rattle.engine.specs.Answers.{After}
 use Rattle.engine.specs.Delivering.{Accepting}
-use Rattle.engine.specs.Voting.{desk_before, changed_result, change_ready, voted_desk, voted_result, vote_ready}
+use Rattle.engine.specs.Voting.{desk_before, change_ready, voted_desk, settled_result, vote_ready}
 use Rattle.engine.specs.Storing.{Votable}
 use Rattle.engine.specs.Operations.{left, delivered_on, delivering, voted_on, voting, changed_on, changing, opened}
 
@@ -70,9 +68,9 @@ room_of words q = let h = ltb-false (words / 2) most_waiting q in omega arith
 -- Delivery.
 module _ (identity set st : ℕ) (reads keys : List ℕ) (amounts : List ℤ) (book : List ℕ) (sums : List ℤ) (fin : List ℕ) (n : ℕ)
     (is_number : n ≡ delivery_number identity set st reads keys amounts book sums (length fin)) where
-  pub delivery_refused : (n ≡ 0 → ⊥) → left (Refused n) book sums fin ≡ delivering identity set st reads keys amounts book sums fin
+  pub delivery_refused : (r : Refusal) → numbered r ≡ n → left (Err r) book sums fin ≡ delivering identity set st reads keys amounts book sums fin
   unfolding delivering
-  delivery_refused some = rw (← is_number, ne_eqb n 0 some)
+  delivery_refused r e = rw (← is_number, ← e, ne_eqb (numbered r) 0 (some_number r), named_numbered r)
 
   pub delivery_accepting : n ≡ 0 → Accepting identity set st reads keys amounts book sums fin
   unfolding delivery_number too_little_room
@@ -92,16 +90,19 @@ module _ (identity set st : ℕ) (reads keys : List ℕ) (amounts : List ℤ) (b
         unrefused = c.allowed;
       }
 
-  pub delivery_taken : (r : Result Delivered) → n ≡ 0 → r ≡ delivered_on identity set st reads keys amounts book sums fin
+  pub delivery_tables : n ≡ 0 → LongTables book sums
+  delivery_tables none = let a = delivery_accepting none in record { long = a.long; long_sums = a.long_sums }
+
+  pub delivery_taken : (r : After (Result Delivered Refusal)) → n ≡ 0 → r ≡ delivered_on identity set st reads keys amounts book sums fin
       → r ≡ delivering identity set st reads keys amounts book sums fin
   unfolding delivering
   delivery_taken r none h = rw (← is_number, none) h
 
 -- Change.
 module _ (k : ℕ) (book : List ℕ) (sums : List ℤ) (fin : List ℕ) (n : ℕ) (is_number : n ≡ change_number k book sums (length fin)) where
-  pub change_refuses : (n ≡ 0 → ⊥) → left (change_refused n) book sums fin ≡ changing k book sums fin
+  pub change_refuses : (r : Refusal) → numbered r ≡ n → left (Err r) book sums fin ≡ changing k book sums fin
   unfolding changing
-  change_refuses some = rw (← is_number, ne_eqb n 0 some)
+  change_refuses r e = rw (← is_number, ← e, ne_eqb (numbered r) 0 (some_number r), named_numbered r)
 
   change_clear : n ≡ 0 → LongTables book sums × Clear (length fin) (change k) (view book sums)
   unfolding change_number
@@ -111,8 +112,8 @@ module _ (k : ℕ) (book : List ℕ) (sums : List ℤ) (fin : List ℕ) (n : ℕ
         cleared (length fin) (short book sums) (change k) (view book sums) z,
       )
 
-  pub change_long : n ≡ 0 → book_words ≤ length book
-  change_long none = (change_clear none).0.long
+  pub change_tables : n ≡ 0 → LongTables book sums
+  change_tables none = (change_clear none).0
 
   pub change_readies : n ≡ 0 → Ready (with_k k (clock_view book)) (desk_before book sums fin)
   unfolding too_little_room
@@ -127,10 +128,7 @@ module _ (k : ℕ) (book : List ℕ) (sums : List ℤ) (fin : List ℕ) (n : ℕ
       })
       k c.1.allowed
 
-  pub change_asks : n ≡ 0 → (book_words ≤ length book) × Ready (with_k k (clock_view book)) (desk_before book sums fin)
-  change_asks none = (change_long none, change_readies none)
-
-  pub change_takes : (r : Result Changed) → n ≡ 0 → r ≡ changed_result (with_k k (clock_view book)) (desk_before book sums fin) → r ≡ changing k book sums fin
+  pub change_takes : (r : After (Result ℕ Refusal)) → n ≡ 0 → r ≡ settled_result (with_k k (clock_view book)) (desk_before book sums fin) → r ≡ changing k book sums fin
   unfolding changing changed_on
   change_takes r none h = rw (← is_number, none) h
 
@@ -156,18 +154,11 @@ vote_clears identity p agrees book sums words n is_number none =
     let z : lent_number words (short book sums) e (view book sums) ≡ 0 = sym is_number ∙ none in
     (long_tables book sums (not_short words (short book sums) e (view book sums) z), cleared words (short book sums) e (view book sums) z)
 
--- The tables in which the row of its identity is looked for.
-pub vote_tables : (identity p : ℕ) (agrees : Bool) (book : List ℕ) (sums : List ℤ) (words n : ℕ) → n ≡ vote_number identity p agrees book sums words → n ≡ 0
-    → (book_words ≤ length book) × (get_or book 5 0 ≤ 32)
-vote_tables identity p agrees book sums words n is_number none =
-    let c = vote_clears identity p agrees book sums words n is_number none in
-    (c.0.long, (sound_tables book sums c.1.is_sound).few_waiting)
-
 module _ (identity p : ℕ) (agrees : Bool) (book : List ℕ) (sums : List ℤ) (fin : List ℕ) (n : ℕ)
     (is_number : n ≡ vote_number identity p agrees book sums (length fin)) where
-  pub vote_refuses : (n ≡ 0 → ⊥) → left (vote_refused n) book sums fin ≡ voting identity p agrees book sums fin
+  pub vote_refuses : (r : Refusal) → numbered r ≡ n → left (Err r) book sums fin ≡ voting identity p agrees book sums fin
   unfolding voting
-  vote_refuses some = rw (← is_number, ne_eqb n 0 some)
+  vote_refuses r e = rw (← is_number, ← e, ne_eqb (numbered r) 0 (some_number r), named_numbered r)
 
   abbrev event : Event
   event = vote identity p (ballot agrees)
@@ -178,8 +169,8 @@ module _ (identity p : ℕ) (agrees : Bool) (book : List ℕ) (sums : List ℤ) 
   vote_clear : n ≡ 0 → LongTables book sums × Clear (length fin) event (view book sums)
   vote_clear none = vote_clears identity p agrees book sums (length fin) n is_number none
 
-  pub vote_long : n ≡ 0 → book_words ≤ length book
-  vote_long none = (vote_clear none).0.long
+  pub vote_tables : n ≡ 0 → LongTables book sums
+  vote_tables none = (vote_clear none).0
 
   pub vote_list : n ≡ 0 → get_or book 5 0 ≤ 32
   vote_list none = (sound_tables book sums (vote_clear none).1.is_sound).few_waiting
@@ -204,7 +195,7 @@ module _ (identity p : ℕ) (agrees : Bool) (book : List ℕ) (sums : List ℤ) 
       rw (row_word book i 1 (omega arith)) at
       (not-false (other (get_or book 1 0) (get_or (waiting_words book i) 1 0) p) (rw (is_its (entry_at book sums i) identity r.its) at here))
 
-  vote_partition : n ≡ 0 → p < 8
+  pub vote_partition : n ≡ 0 → p < 8
   unfolding other
   vote_partition none =
       let set = get_or book (6 + 24 * i + 1) 0 in
@@ -234,25 +225,23 @@ module _ (identity p : ℕ) (agrees : Bool) (book : List ℕ) (sums : List ℤ) 
             identity i p agrees r.below r.its c.1.allowed;
       }
 
-  pub vote_takes : (r : Result Voted) → n ≡ 0 → r ≡ voted_result (clock_view book) (voted_desk i p agrees book sums fin) → r ≡ voting identity p agrees book sums fin
+  pub vote_takes : (r : After (Result ℕ Refusal)) → n ≡ 0 → r ≡ settled_result (clock_view book) (voted_desk i p agrees book sums fin) → r ≡ voting identity p agrees book sums fin
   unfolding voting voted_on
   vote_takes r none h = rw (← is_number, none) h
 
   -- the same for the row that was found
-  module _ (found : ℕ) (is_row : found ≡ index_of identity (tab (get_or book 5 0) (λ j. get_or book (waiting_row j) 0))) where
+  module _ (found : ℕ) (is_row : found ≡ i) where
     pub votable_at : n ≡ 0 → Votable found p agrees book sums fin
-    unfolding waiting_identities
     votable_at none = rw is_row (votable none)
 
-    pub vote_takes_at : (r : Result Voted) → n ≡ 0 → r ≡ voted_result (clock_view book) (voted_desk found p agrees book sums fin) → r ≡ voting identity p agrees book sums fin
-    unfolding waiting_identities
+    pub vote_takes_at : (r : After (Result ℕ Refusal)) → n ≡ 0 → r ≡ settled_result (clock_view book) (voted_desk found p agrees book sums fin) → r ≡ voting identity p agrees book sums fin
     vote_takes_at r none h = vote_takes r none (rw is_row at h)
 
 -- Opening.
 module _ (partitions own k : ℕ) (book : List ℕ) (sums : List ℤ) (n : ℕ) (is_number : n ≡ opening_number partitions own k book sums) where
-  pub opening_refuses : (n ≡ 0 → ⊥) → left (opening_refused n) book sums [] ≡ opened partitions own k book sums
+  pub opening_refuses : (r : Refusal) → numbered r ≡ n → left (Err r) book sums [] ≡ opened partitions own k book sums
   unfolding opened
-  opening_refuses some = rw (← is_number, ne_eqb n 0 some)
+  opening_refuses r e = rw (← is_number, ← e, ne_eqb (numbered r) 0 (some_number r), named_numbered r)
 
   pub opening_long : n ≡ 0 → LongTables book sums
   unfolding opening_number
@@ -262,6 +251,6 @@ module _ (partitions own k : ℕ) (book : List ℕ) (sums : List ℤ) (n : ℕ) 
       (λ q. long_tables book sums (or_left (short book sums) (not (sizes_fit partitions own k)) q))
 
   pub opening_takes : {b : List ℕ} {s : List ℤ} → n ≡ 0 → b ≡ opened_book book partitions own k → s ≡ opened_sums sums
-      → left Opened b s [] ≡ opened partitions own k book sums
+      → left (Ok tt) b s [] ≡ opened partitions own k book sums
   unfolding opened
   opening_takes none eb es = rw (← is_number, none, eb, es)

@@ -1,11 +1,11 @@
 -- Reading: a number first, then the value of the newest version at most st.
 use Rattle.std.specs.Prelude.{ℕ, ◌+◌, ◌≤◌, ◌<◌, List, ◌≡◌, refl, ℤ, length, get_or}
 use Rattle.std.proofs.Math.Path.{sym}
-use Rattle.std.proofs.Common.{ap, ◌∙◌, arith}
+use Rattle.std.proofs.Common.{◌∙◌, arith}
 use borrow.Author.Tests.{ltb-false, leb-false, ne_eqb}
 use Rattle.rules.specs.Sizes.{keys, floor}
 use Rattle.rules.specs.Read.{read_at}
-use Rattle.rules.specs.Events.{read, snapshot, at, newest}
+use Rattle.rules.specs.Events.{read, snapshot}
 use Rattle.rules.specs.Refusals.{refusal, checks, read_checks}
 use Rattle.claims.specs.Refused.{none_applies}
 use Rattle.tables.specs.Layout.{book_words, sums_words}
@@ -13,11 +13,11 @@ use Rattle.tables.specs.View.{view, books_view}
 use Rattle.tables.specs.Good.{KeptGood}
 use Rattle.checking.specs.SoundTables.{sound_tables}
 use Rattle.refusing.specs.Operands.{short, lent_number, read_number}
-use Rattle.engine.specs.declared.Reading.{Reading}
-use Rattle.engine.specs.declared.Reading.TheVariants.{Refused, Value}
-use Rattle.engine.specs.declared.Snapshot.{Snapshot}
-use Rattle.engine.specs.declared.Snapshot.TheVariants.{At, Newest}
-use Rattle.engine.specs.Answers.{snapshot_said}
+use Rattle.std.specs.declared.option.Option as code
+use Rattle.refusing.specs.declared.refusals.Refusal.{Refusal}
+use Rattle.refusing.specs.Told.{numbered, named_numbered, some_number}
+use Rattle.refusing.specs.Snapshots.{asked}
+use Rattle.engine.specs.declared.answers.Reading.TheVariants.{Refused, Value}
 use Rattle.engine.specs.Operations.{reading}
 use Rattle.engine.specs.Public.{long_tables, not_short, cleared}
 
@@ -34,18 +34,18 @@ pub record Readable (key st : ℕ) (book : List ℕ) (sums : List ℤ) : Type 0 
   pub taken : st ≤ get_or book 2 0
   pub near : get_or book 2 0 ≤ st + 64
 
-module _ (key : ℕ) (st : Snapshot) (book : List ℕ) (sums : List ℤ) (n : ℕ) (is_number : n ≡ read_number key (snapshot_said st) book sums) where
-  pub read_refuses : (n ≡ 0 → ⊥) → Refused n ≡ reading key st book sums
+module _ (key : ℕ) (st : code.Option ℕ) (book : List ℕ) (sums : List ℤ) (n : ℕ) (is_number : n ≡ read_number key (asked st) book sums) where
+  pub read_refuses : (r : Refusal) → numbered r ≡ n → Refused r ≡ reading key st book sums
   unfolding reading
-  read_refuses some = rw (← is_number, ne_eqb n 0 some)
+  read_refuses r e = rw (← is_number, ← e, ne_eqb (numbered r) 0 (some_number r), named_numbered r)
 
   abbrev at_st : ℕ
-  at_st = snapshot (snapshot_said st) (view book sums)
+  at_st = snapshot (asked st) (view book sums)
 
   pub readable : n ≡ 0 → Readable key at_st book sums
   unfolding read_number refusal checks read_checks books_view
   readable none =
-      let e = read key (snapshot_said st) in
+      let e = read key (asked st) in
       let z : lent_number 0 (short book sums) e (view book sums) ≡ 0 = sym is_number ∙ none in
       let c = cleared 0 (short book sums) e (view book sums) z in
       let tables = long_tables book sums (not_short 0 (short book sums) e (view book sums) z) in
@@ -62,37 +62,11 @@ module _ (key : ℕ) (st : Snapshot) (book : List ℕ) (sums : List ℤ) (n : �
         near = omega arith;
       }
 
-  pub read_takes : (v : ℤ) → n ≡ 0 → v ≡ read_at key at_st (books_view (get_or book 2 0) book sums) → Value v at_st ≡ reading key st book sums
+  pub read_takes : (v : ℤ) (version : ℕ) → n ≡ 0 → version ≡ at_st → v ≡ read_at key version (books_view (get_or book 2 0) book sums)
+      → Value v version ≡ reading key st book sums
   unfolding reading
-  read_takes v none h = rw (← is_number, none, h)
+  read_takes v version none is h = rw (← is_number, none, h, is)
 
--- At a version, and at SC.
-module _ (key st : ℕ) (book : List ℕ) (sums : List ℤ) (n : ℕ) (is_number : n ≡ read_number key (at st) book sums) where
-  pub version_refuses : (n ≡ 0 → ⊥) → Refused n ≡ reading key (At st) book sums
-  version_refuses some = read_refuses key (At st) book sums n is_number some
-
-  pub version_readable : n ≡ 0 → Readable key st book sums
-  unfolding snapshot
-  version_readable none = readable key (At st) book sums n is_number none
-
-  pub version_takes : (v : ℤ) → n ≡ 0 → v ≡ read_at key st (books_view (get_or book 2 0) book sums) → Value v st ≡ reading key (At st) book sums
-  unfolding snapshot
-  version_takes v none h = read_takes key (At st) book sums n is_number v none h
-
-module _ (key : ℕ) (book : List ℕ) (sums : List ℤ) (n : ℕ) (is_number : n ≡ read_number key newest book sums) where
-  pub newest_refuses : (n ≡ 0 → ⊥) → Refused n ≡ reading key Newest book sums
-  newest_refuses some = read_refuses key Newest book sums n is_number some
-
-  pub newest_readable : n ≡ 0 → Readable key (get_or book 2 0) book sums
-  unfolding snapshot view books_view
-  newest_readable none = readable key Newest book sums n is_number none
-
-  pub newest_takes : (v : ℤ) → n ≡ 0 → v ≡ read_at key (get_or book 2 0) (books_view (get_or book 2 0) book sums)
-      → Value v (get_or book 2 0) ≡ reading key Newest book sums
-  unfolding snapshot view books_view
-  newest_takes v none h = read_takes key Newest book sums n is_number v none h
-
--- A read at either snapshot.
-pub reading_at : (key : ℕ) (st other : Snapshot) (book : List ℕ) (sums : List ℤ) {r : Reading} → st ≡ other → r ≡ reading key other book sums
-    → r ≡ reading key st book sums
-reading_at key st other book sums same h = h ∙ ap (λ (x : Snapshot). reading key x book sums) (sym same)
+  -- the version that was found is the one to read at
+  pub version_readable : (version : ℕ) → n ≡ 0 → version ≡ at_st → Readable key version book sums
+  version_readable version none is = rw is (readable none)

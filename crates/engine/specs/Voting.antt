@@ -20,11 +20,10 @@ use Rattle.tables.specs.View.{kept_words, entry_at, commit_at, waiting_view, len
 use Rattle.tables.specs.Voted.{voted_book, ballot, voted_length, voted_counter, voted_kept, voted_waiting}
 use Rattle.tables.specs.Closed.{Desk, words_of}
 use Rattle.tables.specs.Settled.{Ready, closed_desk, settled_book, settled_view, settled_finishes, settled_count}
-use Rattle.engine.specs.declared.Voted.{Voted}
-use Rattle.engine.specs.declared.Voted.TheVariants.{Stored}
-use Rattle.engine.specs.declared.Changed.{Changed}
-use Rattle.engine.specs.declared.Changed.TheVariants.{Taken}
-use Rattle.engine.specs.Answers.{Result, Means, voted_said, voted_finishes, changed_said, changed_finishes}
+use Rattle.std.specs.Prelude.{Ok}
+use Rattle.std.proofs.Common.{Result}
+use Rattle.refusing.specs.declared.refusals.Refusal.{Refusal}
+use Rattle.engine.specs.Answers.{After, Means, voted_said, changed_said, finishes_told}
 
 -- The desk before closing: the tables as they are, or with the vote in row i.
 unfoldable pub desk_before : List ℕ → List ℤ → List ℕ → Desk
@@ -42,13 +41,10 @@ voted_desk i p agrees book sums fin =
       finishes = fin;
     }
 
-unfoldable pub voted_result : Clock → Desk → Result Voted
-voted_result c d =
-    record { answer = Stored (closed_desk c d).finished; book = settled_book c d; sums = (closed_desk c d).sums; finishes = (closed_desk c d).finishes }
-
-unfoldable pub changed_result : Clock → Desk → Result Changed
-changed_result c d =
-    record { answer = Taken (closed_desk c d).finished; book = settled_book c d; sums = (closed_desk c d).sums; finishes = (closed_desk c d).finishes }
+-- A vote or a change settled: how many finishes were written, and all three tables.
+unfoldable pub settled_result : Clock → Desk → After (Result ℕ Refusal)
+settled_result c d =
+    record { answer = Ok (closed_desk c d).finished; book = settled_book c d; sums = (closed_desk c d).sums; finishes = (closed_desk c d).finishes }
 
 -- Tables that are lent, long enough and sound, with room for the finishes.
 pub record Lent (book : List ℕ) (sums : List ℤ) (fin : List ℕ) : Type 0 where
@@ -78,8 +74,8 @@ module _ (book : List ℕ) (sums : List ℤ) (fin : List ℕ) (h : Lent book sum
       }
 
   pub change_means : (k : ℕ) → refusal (change k) (view book sums) ≡ none
-      → Means changed_said changed_finishes fin (changed_result (with_k k (clock_view book)) (desk_before book sums fin)) (accepted (change k) (view book sums))
-  unfolding changed_result accepted take_change view closing desk_before
+      → Means changed_said finishes_told fin (settled_result (with_k k (clock_view book)) (desk_before book sums fin)) (accepted (change k) (view book sums))
+  unfolding settled_result accepted take_change view closing desk_before
   change_means k q =
       let c = with_k k (clock_view book) in
       let ready = change_ready k q in
@@ -140,8 +136,8 @@ module _ (book : List ℕ) (sums : List ℤ) (fin : List ℕ) (h : Lent book sum
           own = voted_counter book i p agrees 1 (omega arith);
         }
 
-    pub vote_means : Means voted_said voted_finishes fin (voted_result (clock_view book) d) (accepted (vote identity p (ballot agrees)) (view book sums))
-    unfolding voted_result accepted take_vote view closing voted_desk
+    pub vote_means : Means voted_said finishes_told fin (settled_result (clock_view book) d) (accepted (vote identity p (ballot agrees)) (view book sums))
+    unfolding settled_result accepted take_vote view closing voted_desk
     vote_means =
         let c = clock_view book in
         let es = voted_list in

@@ -1,67 +1,60 @@
 // What becomes of a newcomer: the three numbered rules in their order.
-ghost use Rattle.std.specs.Prelude.{◌≤◌, ◌<◌, true, ◌≡◌, length};
-ghost use Rattle.rules.specs.Keys.{ascending};
+ghost use Rattle.std.specs.Prelude.{◌≡◌, get_or};
 ghost use Rattle.rules.specs.Place.{place};
 ghost use Rattle.rules.specs.Delivery.{placed};
 ghost use Rattle.laws.specs.Tabs.{tab};
 ghost use Rattle.tables.specs.View.{waiting_words};
 ghost use Rattle.tables.specs.Tested.{row_blocks, row_passes};
 ghost use Rattle.tables.specs.Judged.{row_fate};
-ghost use Rattle.engine.specs.Judging.{Judgeable, fate_of};
+ghost use Rattle.engine.specs.Fates.{fate_of};
+ghost use Rattle.engine.specs.Judging.{Judgeable};
 
-use certifying::Place;
-
-// Aborted for a reason, or joining at a place.
-#[derive(Drop)]
-pub enum Fate {
-    Abort(u32),
-    Join(usize),
-}
+use crate::Reason;
+use certifying::Newcomer;
+use masks::Partition;
+use tables::{Book, Kept, Waiting};
 
 // "A local one takes the smallest place i [..] If none exists: aborted, reason 3."
 fn place_local(
-    book: &[u32],
-    own: u32,
+    waiting: Waiting<'_>,
+    own: Partition,
     dc: u32,
-    sc: u32,
-    n: usize,
-    st: u32,
-    reads: &[u32],
-    keys: &[u32],
-) -> Fate
-    requires { Judgeable own sc n st reads.now keys.now book.now }
-    ensures { result ≡ fate_of (placed (place (row_blocks reads.now) (row_passes own dc keys.now) (tab n (waiting_words book.now)))) }
+    newcomer: Newcomer<'_>,
+) -> Result<usize, Reason>
+    ensures { result ≡ fate_of (placed (place (row_blocks newcomer.entry.reads.list.now) (row_passes own.number dc newcomer.entry.keys.list.now) (tab waiting.entry.count (waiting_words waiting.entry.book.words.now)))) }
 {
-    match certifying::earliest_place(book, n, own, dc, reads, keys) {
-        Place::At(i) => Fate::Join(i),
-        Place::Nowhere => Fate::Abort(3),
-    }
+    certifying::earliest_place(waiting, own, dc, newcomer).ok_or(Reason::NoPlace)
 }
 
+// The place that a newcomer takes among those that wait, or why it is aborted.
 pub fn judge(
-    book: &[u32],
-    own: u32,
+    book: Book<'_>,
     dc: u32,
-    sc: u32,
-    n: usize,
     set: u32,
     st: u32,
-    reads: &[u32],
-    keys: &[u32],
-) -> Fate
-    requires { Judgeable own sc n st reads.now keys.now book.now }
-    ensures { result ≡ fate_of (row_fate own dc sc n set st reads.now keys.now book.now) }
+    newcomer: Newcomer<'_>,
+) -> Result<usize, Reason>
+    requires { Judgeable (get_or book.words.now 1 0) (get_or book.words.now 2 0) (get_or book.words.now 5 0) st book.words.now }
+    ensures { result ≡ fate_of (row_fate (get_or book.entry.words.now 1 0) dc (get_or book.entry.words.now 2 0) (get_or book.entry.words.now 5 0) set st newcomer.entry.reads.list.now newcomer.entry.keys.list.now book.entry.words.now) }
 {
+    let own = Partition { number: book.own() };
+    let kept = Kept {
+        book,
+        sc: book.sc(),
+    };
+    let waiting = Waiting {
+        book,
+        count: book.waiting() as usize,
+    };
     let local = masks::is_local(set, own);
-    let global = !local;
-    if certifying::clashes_with_commits(book, sc, st, reads, keys, global) {
-        return Fate::Abort(1);
+    if certifying::clashes_with_commits(kept, st, newcomer, !local) {
+        return Err(Reason::Commit);
     }
     if local {
-        return place_local(book, own, dc, sc, n, st, reads, keys);
+        return place_local(waiting, own, dc, newcomer);
     }
-    if certifying::clashes_with_waiting(book, n, reads, keys, global) {
-        return Fate::Abort(2);
+    if certifying::clashes_with_waiting(waiting, newcomer, true) {
+        return Err(Reason::Waiting);
     }
-    Fate::Join(n)
+    Ok(waiting.count)
 }

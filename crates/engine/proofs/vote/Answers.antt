@@ -1,23 +1,26 @@
-use Rattle.engine.specs.Public.{vote_refuses, vote_tables, votable_at, vote_takes_at}
-use native.Mathlib.Omega.{arith}
+-- A vote is refused by its number, or taken on the row of its identity.
+use Rattle.std.specs.Prelude.{◌≡◌, Err, refl}
+use Rattle.std.proofs.Common.{rules}
+use Rattle.engine.specs.Fates.{says_yes}
+use Rattle.engine.specs.Public.{vote_refuses, vote_tables, vote_partition, votable_at, vote_takes_at}
 use Rattle.engine.proofs.vote.Goals as goal
 
-pub returns-then-number-ne0 : goal.returns-then-number-ne0
-returns-then-number-ne0 c = vote_refuses _ _ _ _ _ _ _ c.vote_number-number.ensures c.if-number-ne0.true
+pub returns-in_err-i : goal.returns-in_err-i
+returns-in_err-i c =
+    let given : c.from_residual.result ≡ Err c.in_err-i.field-0.0 = search rules in
+    rw given (vote_refuses _ _ _ _ _ _ _ (c.in_err-i.ensures.number (says_yes c.args.ballot)) _ refl)
 
-pub bounds-book-5 : goal.bounds-book-5
-bounds-book-5 c = omega (arith, (vote_tables _ _ _ _ _ _ _ c.vote_number-number.ensures c.if-number-ne0.false).0)
+pub invariant_of-ledger : goal.invariant_of-ledger
+invariant_of-ledger c =
+    let tables = vote_tables _ _ _ _ _ _ _ (c.in_ok-i.ensures.number (says_yes c.args.ballot)) refl in
+    record { long = tables.long; long_sums = tables.long_sums }
 
-pub overflow_cast-n : goal.overflow_cast-n
-overflow_cast-n c = omega (arith, (vote_tables _ _ _ _ _ _ _ c.vote_number-number.ensures c.if-number-ne0.false).1)
-
-pub row_of-i-requires : goal.row_of-i-requires
-row_of-i-requires c =
-    let tables = vote_tables _ _ _ _ _ _ _ c.vote_number-number.ensures c.if-number-ne0.false in
-    record { book_words_in_bounds = tables.0; n_bound = tables.1 }
+pub invariant_of-from : goal.invariant_of-from
+invariant_of-from c = record { below_8 = vote_partition _ _ _ _ _ _ _ (c.in_ok-i.ensures.number (says_yes c.args.ballot)) refl }
 
 pub take_vote-requires : goal.take_vote-requires
-take_vote-requires c = votable_at _ _ _ _ _ _ _ c.vote_number-number.ensures _ c.row_of-i.ensures c.if-number-ne0.false
+take_vote-requires c = rw c.is_yes.ensures (votable_at _ _ _ _ _ _ _ (c.in_ok-i.ensures.number (says_yes c.args.ballot)) _ c.in_ok-i.ensures.row refl)
 
 pub returns : goal.returns
-returns c = vote_takes_at _ _ _ _ _ _ _ c.vote_number-number.ensures _ c.row_of-i.ensures _ c.if-number-ne0.false c.take_vote.ensures
+returns c =
+    vote_takes_at _ _ _ _ _ _ _ (c.in_ok-i.ensures.number (says_yes c.args.ballot)) _ c.in_ok-i.ensures.row _ refl (rw (← c.is_yes.ensures) (search rules))

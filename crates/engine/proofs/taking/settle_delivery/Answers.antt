@@ -1,0 +1,8 @@
+-- A delivery whose fate is known: the vote to send, and what settling leaves.
+use Rattle.engine.specs.Acting.{fate_settled}
+use Rattle.engine.proofs.taking.settle_delivery.Goals as goal
+
+pub returns-clause-after : goal.returns-clause-after
+returns-clause-after c =
+    fate_settled _ _ _ _ (rw c.is_ok.ensures.value at c.vote_for-send.ensures) c.settle-told.ensures.value c.settle-told.ensures.book_after c.settle-told.ensures.sums_after
+    c.settle-told.ensures.finishes_after
