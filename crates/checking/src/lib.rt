@@ -14,7 +14,7 @@ ghost use Rattle.checking.specs.GoodRows.{part_good, sets_good, row_good};
 ghost use Rattle.checking.specs.Whole.{identity_at, counters_pass, kept_pass, identities_pass, waiting_pass};
 
 use masks::Partition;
-use tables::{Book, VERSIONS};
+use tables::{Book, Sums, VERSIONS};
 
 // 01, "The ledger's sizes".
 const MOST_PARTITIONS: u32 = 8;
@@ -130,12 +130,35 @@ impl<'a> AnyRow<'a> {
     }
 }
 
-// Every waiting row.
-fn waiting_good(book: Book<'_>, count: usize, opened: Opened) -> bool
-    requires { count ≤ 32 }
-    ensures { result ≡ waiting_pass opened.partitions opened.own.number opened.dc count book.entry.words.now }
-{
-    (0..count).all(|i| AnyRow::waiting(book, i).is_entry_good(opened))
+// So many rows of the waiting list, whatever stands in them.
+#[derive(Clone, Copy)]
+struct AnyRows<'a> {
+    book: Book<'a>,
+    count: usize,
+    ghost few: { count ≤ 32 },
+}
+
+impl AnyRows<'_> {
+    // Every waiting row.
+    fn are_good(self, opened: Opened) -> bool
+        ensures { result ≡ waiting_pass opened.partitions opened.own.number opened.dc self.entry.count self.entry.book.words.now }
+    {
+        (0..self.count).all(|i| AnyRow::waiting(self.book, i).is_entry_good(opened))
+    }
+
+    // An identity stands in one of the rows from a place on.
+    fn have(self, identity: u32, from: usize) -> bool
+        ensures { result ≡ member identity (rest self.entry.count (identity_at self.entry.book.words.now) from) }
+    {
+        (from..self.count).any(|i| identity == AnyRow::waiting(self.book, i).identity())
+    }
+
+    // "waiting identities are .. different": none stands in a later row too.
+    fn differ(self) -> bool
+        ensures { result ≡ identities_pass self.entry.count self.entry.book.words.now }
+    {
+        (0..self.count).all(|i| !self.have(AnyRow::waiting(self.book, i).identity(), i + 1))
+    }
 }
 
 // Every kept row, from the newest version on: as many as "the smaller of SC and 64".
@@ -145,39 +168,23 @@ fn kept_good(book: Book<'_>, sc: u32) -> bool
     (0..sc.min(VERSIONS)).all(|j| AnyRow::kept(book, sc - j).are_sets_good())
 }
 
-// An identity stands in a waiting row from a place on.
-fn is_among(book: Book<'_>, identity: u32, from: usize, count: usize) -> bool
-    requires { count ≤ 32 }
-    ensures { result ≡ member identity (rest count (identity_at book.entry.words.now) from) }
-{
-    (from..count).any(|i| identity == AnyRow::waiting(book, i).identity())
-}
-
-// "waiting identities are .. different": none stands in a later row too.
-fn identities_differ(book: Book<'_>, count: usize) -> bool
-    requires { count ≤ 32 }
-    ensures { result ≡ identities_pass count book.entry.words.now }
-{
-    (0..count).all(|i| !is_among(book, AnyRow::waiting(book, i).identity(), i + 1, count))
-}
-
 // "A state is sound when", of the state that the tables hold. Amounts never matter to it.
 #[tactic(auto, using(crate::specs::Whole::sound_laws))]
-pub fn is_sound(book: Book<'_>, sums: &[i64]) -> bool
-    requires { sums_words ≤ length sums.now }
-    ensures { result ≡ sound (view book.entry.words.now sums.now) }
+pub fn is_sound(book: Book<'_>, sums: Sums<'_>) -> bool
+    ensures { result ≡ sound (view book.entry.words.now sums.entry.amounts.now) }
 {
     // Counters that fit bound all that follows, so they are tested before anything is built on them.
     if !counters_fit(book) {
         return false;
     }
-    let count = book.waiting() as usize;
+    let waiting = AnyRows {
+        book,
+        count: book.waiting() as usize,
+    };
     let opened = Opened {
         partitions: book.partitions(),
         own: Partition { number: book.own() },
         dc: book.dc(),
     };
-    kept_good(book, book.sc())
-        && identities_differ(book, count)
-        && waiting_good(book, count, opened)
+    kept_good(book, book.sc()) && waiting.differ() && waiting.are_good(opened)
 }

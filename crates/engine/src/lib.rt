@@ -14,7 +14,7 @@ pub use answers::{Ballot, Delivered, Reading, Reason};
 use masks::Partition;
 pub use refusing::Refusal;
 pub use tables::Transaction;
-use tables::{Book, Kept, Ledger, Lent};
+use tables::{Book, Kept, Ledger, Lent, Sums};
 
 // "Delivery."
 pub fn deliver(
@@ -73,6 +73,7 @@ pub fn read(key: u32, st: Option<u32>, book: &[u32], sums: &[i64]) -> Reading
                 book,
                 sc: book.sc(),
             };
+            let sums = Sums { amounts: sums };
             Reading::Value(keeping::read_at(kept, sums, key, version), version)
         }
     }

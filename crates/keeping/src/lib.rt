@@ -1,7 +1,7 @@
 // The kept commits: the head's row becomes the newest kept row, and the commit that stood there goes into the values; and the value of a key at a snapshot.
 #![tactic(auto)]
 
-ghost use Rattle.std.specs.Prelude.{◌+◌, ◌%◌, ◌≤◌, ◌<◌, ◌≡◌, eqb, length, position, IfSome};
+ghost use Rattle.std.specs.Prelude.{◌+◌, ◌-◌, ◌%◌, ◌≤◌, ◌<◌, ◌≡◌, eqb, length, position, IfSome};
 ghost use Rattle.rules.specs.Read.{put_at, read_at};
 ghost use Rattle.laws.specs.Options.{given};
 ghost use Rattle.tables.specs.Layout.{sums_words};
@@ -10,7 +10,7 @@ ghost use Rattle.tables.specs.Keeping.{folded_sums, evicted_sums, committed_book
 ghost use Rattle.tables.specs.Good.{KeptGood};
 
 use moves::move_within;
-use tables::{AMOUNTS, Book, COUNTERS, KEPT_ROWS, Kept, Ledger, ROW, VERSIONS};
+use tables::{AMOUNTS, Book, COUNTERS, KEPT_ROWS, Kept, Ledger, ROW, Sums, VERSIONS};
 
 // The amounts of waiting rows stand behind the values, those of kept rows behind them.
 const WAITING_AMOUNTS: usize = 1024;
@@ -24,14 +24,13 @@ fn slot(version: u32) -> usize
     (version % VERSIONS) as usize
 }
 
-// The writes of a kept version go into the values, from the last to the first: each under the writes stored before.
-fn fold(kept: Kept<'_>, sums: &mut [i64], version: u32)
+// The writes of the oldest kept version go into the values, from the last to the first: each under the writes stored before.
+fn fold_oldest(kept: Kept<'_>, sums: &mut [i64])
     requires long { sums_words ≤ length sums.old }
-    requires from_first { 1 ≤ version }
-    requires up_to_sc { version ≤ kept.sc }
-    requires among_the_newest { kept.sc < version + 64 }
-    ensures { sums.new ≡ folded_sums kept.entry.book.words.now sums.old version }
+    requires full { 64 ≤ kept.sc }
+    ensures { sums.new ≡ folded_sums kept.entry.book.words.now sums.old (kept.entry.sc - 64 + 1) }
 {
+    let version = kept.sc - VERSIONS + 1;
     let keys = kept.row(version).keys().list;
     let amounts = KEPT_AMOUNTS + AMOUNTS * slot(version);
     for j in (0..keys.len()).rev() {
@@ -46,7 +45,7 @@ fn evict(kept: Kept<'_>, sums: &mut [i64])
     ensures { sums.new ≡ evicted_sums kept.entry.book.words.now sums.old kept.entry.sc }
 {
     if VERSIONS <= kept.sc {
-        fold(kept, sums, kept.sc - VERSIONS + 1);
+        fold_oldest(kept, sums);
     }
 }
 
@@ -83,25 +82,23 @@ fn find(keys: &[u32], key: u32) -> Option<usize>
 
 // What a version put at a key, if it wrote it.
 #[tactic(auto, using(crate::specs::Places::put_nothing, crate::specs::Places::put_value))]
-fn value_put(kept: Kept<'_>, sums: &[i64], version: u32, key: u32) -> Option<i64>
-    requires long { sums_words ≤ length sums.now }
+fn value_put(kept: Kept<'_>, sums: Sums<'_>, version: u32, key: u32) -> Option<i64>
     requires from_first { 1 ≤ version }
     requires up_to_sc { version ≤ kept.sc }
     requires among_the_newest { kept.sc < version + 64 }
-    ensures { result ≡ given (put_at key (commit_at kept.entry.book.words.now sums.now version).writes) }
+    ensures { result ≡ given (put_at key (commit_at kept.entry.book.words.now sums.entry.amounts.now version).writes) }
 {
     let place = find(kept.row(version).keys().list, key)?;
-    Some(sums[KEPT_AMOUNTS + AMOUNTS * slot(version) + place])
+    Some(sums.amounts[KEPT_AMOUNTS + AMOUNTS * slot(version) + place])
 }
 
 // "the value of the newest version that is at most st": the kept rows are looked at from version st down to the floor, which is "SC - 64, or 0 if SC is smaller".
 #[tactic(auto, using(crate::specs::Reading::read_start, crate::specs::Reading::read_hit, crate::specs::Reading::read_miss, crate::specs::Reading::read_end))]
-pub fn read_at(kept: Kept<'_>, sums: &[i64], key: u32, st: u32) -> i64
-    requires sums_words_in_bounds { sums_words ≤ length sums.now }
+pub fn read_at(kept: Kept<'_>, sums: Sums<'_>, key: u32, st: u32) -> i64
     requires key_bound { key < 1024 }
     requires st_le_sc { st ≤ kept.sc }
     requires sc_bound { kept.sc ≤ st + 64 }
-    ensures { result ≡ read_at key st (books_view kept.entry.sc kept.entry.book.words.now sums.now) }
+    ensures { result ≡ read_at key st (books_view kept.entry.sc kept.entry.book.words.now sums.entry.amounts.now) }
 {
     let floor = kept.sc.saturating_sub(VERSIONS);
     for version in (floor + 1..=st).rev() {
@@ -109,5 +106,5 @@ pub fn read_at(kept: Kept<'_>, sums: &[i64], key: u32, st: u32) -> i64
             return value;
         }
     }
-    sums[key as usize]
+    sums.amounts[key as usize]
 }

@@ -14,6 +14,12 @@ use Rattle.tables.specs.View.{waiting_words, view}
 use Rattle.refusing.specs.Operands.{index_of, waiting_identities}
 use Rattle.refusing.specs.Indexed.{waits_here, row_of}
 
+-- The first of the first n waiting rows that has an identity, if one has it.
+abbrev pub row_among : ℕ → ℕ → List ℕ → code.Option ℕ
+row_among x n book =
+    let i = index_of x (tab n (λ j. get_or book (waiting_row j) 0)) in
+    cond (ltb i n) (Some i) None
+
 -- The row of an identity that waits, if one has it.
 abbrev pub waiting_row_of : ℕ → List ℕ → code.Option ℕ
 waiting_row_of x book =
@@ -53,12 +59,16 @@ identity_word : (book : List ℕ) (i : ℕ) → get_or (waiting_words book i) 0 
 unfolding waiting_words
 identity_word book i = get_or_cut (waiting_row i) 24 book 0 0 (omega arith) ∙ ap (λ (o : ℕ). get_or book o 0) (omega arith)
 
-pub found_row : (x n : ℕ) (book : List ℕ) → n ≡ get_or book waiting_at 0 → {r : code.Option ℕ}
+pub found_row : (x n : ℕ) (book : List ℕ) {r : code.Option ℕ}
     → r ≡ cond (ltb (position_or_len (λ i. eqb (get_or (waiting_words book i) 0 0) x) (range_with_len 0 n)) (length (range_with_len 0 n)))
     (Some (position_or_len (λ i. eqb (get_or (waiting_words book i) 0 0) x) (range_with_len 0 n))) None
-    → r ≡ waiting_row_of x book
-unfolding waiting_identities
-found_row x n book all e =
+    → r ≡ row_among x n book
+found_row x n book e =
     let same = index_from x (λ i. get_or (waiting_words book i) 0 0) (λ i. get_or book (waiting_row i) 0) 0 n
     (λ i. ap (λ (j : ℕ). get_or (waiting_words book j) 0 0) (omega arith) ∙ identity_word book i) in
-    e ∙ rw (same, length-range_with_len 0 n, all)
+    e ∙ rw (same, length-range_with_len 0 n)
+
+-- Among all that wait.
+pub row_waits : (x n : ℕ) (book : List ℕ) {r : code.Option ℕ} → n ≡ get_or book waiting_at 0 → r ≡ row_among x n book → r ≡ waiting_row_of x book
+unfolding waiting_identities
+row_waits x n book all e = rw all at e

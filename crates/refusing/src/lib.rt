@@ -9,7 +9,7 @@ ghost use Rattle.tables.specs.View.{view};
 ghost use Rattle.refusing.specs.Told.{told};
 ghost use Rattle.refusing.specs.Operands.{short, delivery_number, vote_number, change_number, read_number, opening_number, index_of, waiting_identities};
 ghost use Rattle.refusing.specs.Lending.{unusable, lending_number};
-ghost use Rattle.refusing.specs.Seeking.{waiting_row_of};
+ghost use Rattle.refusing.specs.Seeking.{row_among, waiting_row_of};
 ghost use Rattle.refusing.specs.Snapshots.{snapshot_number, read_words, asked};
 ghost use Rattle.refusing.specs.Deliveries.{late, operand_number, delivery_words};
 ghost use Rattle.refusing.specs.Votes.{vote_words};
@@ -17,7 +17,7 @@ ghost use Rattle.refusing.specs.Votes.{vote_words};
 mod refusals;
 
 pub use refusals::Refusal;
-use tables::{BOOK, Book, Lent, SUMS, Transaction};
+use tables::{BOOK, Book, Lent, SUMS, Sums, Transaction};
 
 // What is asked of a row here, by its place in the row.
 const SET: usize = 1; // its partition set
@@ -68,7 +68,8 @@ fn check_tables(lent: Lent<'_>) -> Result<Usable<'_>, Refusal>
     ensures book { IfOk result (λ u. u.book.words.now ≡ lent.entry.book.now) }
 {
     let book = check_lengths(lent)?;
-    if !checking::is_sound(book, lent.sums) {
+    let sums = Sums { amounts: lent.sums };
+    if !checking::is_sound(book, sums) {
         return Err(Refusal::Unusable);
     }
     Ok(Usable { book })
@@ -100,12 +101,21 @@ fn check_snapshot(st: u32, sc: u32) -> Result<(), Refusal>
     Ok(())
 }
 
+// The row of an identity among the first rows of the waiting list, if one has it.
+pub fn row_of(book: Book<'_>, count: usize, identity: u32) -> Option<usize>
+    requires { count ≤ 32 }
+    ensures { result ≡ row_among identity count book.entry.words.now }
+{
+    (0..count).position(|i| book.waiting_row(i)[0] == identity)
+}
+
 impl Usable<'_> {
     // The row of an identity among those that wait, if one has it.
+    #[tactic(auto, using(crate::specs::Seeking::row_waits))]
     fn row_of(self, identity: u32) -> Option<usize>
         ensures { result ≡ waiting_row_of identity self.entry.book.words.now }
     {
-        (0..self.book.waiting() as usize).position(|i| self.book.waiting_row(i)[0] == identity)
+        row_of(self.book, self.book.waiting() as usize, identity)
     }
 
     // A delivery's numbers 5 to 8.

@@ -1,6 +1,6 @@
-// The words of a ledger: six counters, then the rows of the waiting list, then the kept rows.
+// The words of a ledger: six counters, then the rows of the waiting list, then the kept rows; and its amounts.
 ghost use Rattle.std.specs.Prelude.{◌≤◌, ◌<◌, ◌≡◌, length, get_or};
-ghost use Rattle.tables.specs.Layout.{book_words, partitions_at, own_at, sc_at, dc_at, k_at, waiting_at};
+ghost use Rattle.tables.specs.Layout.{book_words, sums_words, partitions_at, own_at, sc_at, dc_at, k_at, waiting_at};
 ghost use Rattle.tables.specs.View.{waiting_words, kept_words};
 
 use crate::{COUNTERS, KEPT_ROWS, ROW, VERSIONS};
@@ -68,4 +68,11 @@ impl<'a> Book<'a> {
         let at = KEPT_ROWS + ROW * (version % VERSIONS) as usize;
         &self.words[at..at + ROW]
     }
+}
+
+// Amounts that are long enough for every value and row.
+#[derive(Clone, Copy)]
+pub struct Sums<'a> {
+    pub amounts: &'a [i64],
+    pub ghost long: { sums_words ≤ length amounts.now },
 }

@@ -5,7 +5,7 @@ mod books;
 mod ledgers;
 mod rows;
 
-pub use books::Book;
+pub use books::{Book, Sums};
 pub use ledgers::{Ledger, Lent, Transaction};
 pub use rows::{Kept, Row, Waiting};
 

@@ -18,8 +18,8 @@ invariant_of-book c = record { long = (version_readable _ _ _ _ _ c.in-Ok.ensure
 pub invariant_of-kept : goal.invariant_of-kept
 invariant_of-kept c = record { good = rw c.sc.ensures (version_readable _ _ _ _ _ c.in-Ok.ensures.number _ refl c.in-Ok.ensures.version).kept }
 
-pub read_at-requires-clause-sums_words_in_bounds : goal.read_at-requires-clause-sums_words_in_bounds
-read_at-requires-clause-sums_words_in_bounds c = (version_readable _ _ _ _ _ c.in-Ok.ensures.number _ refl c.in-Ok.ensures.version).long_sums
+pub invariant_of-sums : goal.invariant_of-sums
+invariant_of-sums c = record { long = (version_readable _ _ _ _ _ c.in-Ok.ensures.number _ refl c.in-Ok.ensures.version).long_sums }
 
 pub read_at-requires-clause-key_bound : goal.read_at-requires-clause-key_bound
 read_at-requires-clause-key_bound c = (version_readable _ _ _ _ _ c.in-Ok.ensures.number _ refl c.in-Ok.ensures.version).low

@@ -3,4 +3,4 @@ use Rattle.keeping.specs.Reading.{Reading}
 use Rattle.keeping.proofs.read_at.Given as goal
 
 abbrev pub invariant-loop-version : goal.invariant-loop-version
-invariant-loop-version l = Reading l.kept.book.words.now l.sums l.kept.sc l.key l.st l.floor l.version
+invariant-loop-version l = Reading l.kept.book.words.now l.sums.amounts.now l.kept.sc l.key l.st l.floor l.version

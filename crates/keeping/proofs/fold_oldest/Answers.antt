@@ -4,7 +4,7 @@ use mir.Syntax.{w64}
 use mir.Facts.{to_z-of_z}
 use Rattle.tables.specs.Rows.{row_keys}
 use Rattle.keeping.specs.Folding.{fold_start, fold_step, fold_end}
-use Rattle.keeping.proofs.fold.Goals as goal
+use Rattle.keeping.proofs.fold_oldest.Goals as goal
 
 pub loop-j-init : goal.loop-j-init
 loop-j-init c = let keys = c.keys.ensures ∙ ap row_keys c.row.ensures in rw keys (fold_start (rw c.row.ensures at c.row.result.good) c.requires.long)

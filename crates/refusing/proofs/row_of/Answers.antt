@@ -1,4 +1,4 @@
--- `Usable::row_of` meets its contract: the search stops at the first waiting row that begins with the identity, or none does. Assumes nothing.
+-- `refusing::row_of` meets its contract: the search stops at the first row that begins with the identity, or none does. Assumes nothing.
 use Rattle.std.proofs.Common.{rules, arith, refl, eqb, get_or}
 use borrow.Author.Tests.{tests}
 use Rattle.std.proofs.lemmas.Iterator.{YieldsList-from_range, serves_from_Range}
@@ -6,15 +6,15 @@ use Rattle.std.proofs.lemmas.Iterator.Search.{position_from_yields_List}
 use Rattle.tables.specs.View.{waiting_words}
 use Rattle.tables.specs.Good.{waiting_whole}
 use Rattle.refusing.specs.Seeking.{found_row}
-use Rattle.refusing.proofs.Usable.row_of.Goals as goal
+use Rattle.refusing.proofs.row_of.Goals as goal
 
 pub position-requires-clause-callable : goal.position-requires-clause-callable
 position-requires-clause-callable c =
-    serves_from_Range (λ x q k. search (rules, tests)) (λ x low high. grind (arith, waiting_whole, c.args.self.few_waiting, c.args.self.book.long))
+    serves_from_Range (λ x q k. search (rules, tests)) (λ x low high. grind (arith, waiting_whole, c.requires, c.args.book.long))
 
 pub returns : goal.returns
 returns c =
-    let book = c.args.self.book.words.now in
-    found_row c.args.identity c.waiting.result book c.waiting.ensures
+    let book = c.args.book.words.now in
+    found_row c.args.identity c.args.count book
     (position_from_yields_List (λ i. eqb (get_or (waiting_words book i) 0 0) c.args.identity) _ _ _ c.position.ensures.ran
-    (YieldsList-from_range 0 c.waiting.result c.waiting.result refl (omega arith)) (λ x b q k. search (rules, tests)))
+    (YieldsList-from_range 0 c.args.count c.args.count refl (omega arith)) (λ x b q k. search (rules, tests)))
