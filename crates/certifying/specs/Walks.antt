@@ -5,16 +5,13 @@ use Rattle.std.specs.declared.ops.Range.{Range}
 use Rattle.std.specs.List.{FoldsTo}
 use Rattle.std.specs.Fn.{Called}
 use Rattle.std.specs.Option.{is_some, IsSomeAnd}
-use Rattle.std.specs.Iterator.{Yields, ChecksAny, FindsPositionBack}
+use Rattle.std.specs.Iterator.{Yields, FindsPositionBack}
 use Rattle.std.proofs.Common.{true≢false, sym, subst, ap, ◌∙◌, arith, drop-cons}
 use Rattle.std.proofs.lemmas.Bool.{not-true, not-false}
-use Rattle.std.proofs.lemmas.Iterator.{YieldsList-from_range}
-use Rattle.std.proofs.lemmas.Iterator.Search.{any_from_yields_List}
-use Rattle.std.proofs.iter.Yields.{nat_range_steps}
 use Rattle.std.proofs.iter.runs.Sources.{nat_range_steps_back}
 use denote.Param.Members.{Mut}
 use borrow.Author.Tests.{ltb-true, ltb-false}
-use Rattle.rules.specs.Lists.{any, all}
+use Rattle.rules.specs.Lists.{all}
 use Rattle.laws.specs.Tests.{split, and_both}
 use Rattle.laws.specs.Walks.{below}
 use Rattle.laws.specs.Tabs.{tab, length_tab, get_or_tab, drop_tab}

@@ -12,7 +12,7 @@ ghost use Rattle.certifying.specs.Places.{Reached};
 
 use keys::Keys;
 use masks::Partition;
-use tables::{Kept, Row, Waiting};
+use tables::{Kept, SoundRow, Waiting};
 
 // What a newcomer touches: the keys that it reads and the keys that it writes.
 #[derive(Clone, Copy)]
@@ -24,26 +24,27 @@ pub struct Newcomer<'a> {
 impl Newcomer<'_> {
     // The row "writes a key it reads".
     #[tactic(auto, unfolding(tables::specs::Tested::row_blocks))]
-    fn is_blocked_by(self, row: Row<'_>) -> bool
-        ensures { result ≡ row_blocks self.entry.reads.list.now row.entry.words.now }
+    fn is_blocked_by(self, row: SoundRow<'_>) -> bool
+        ensures { result ≡ row_blocks self.entry.reads.list.now row.entry.row.words.now }
     {
         self.reads.meets(row.keys())
     }
 
-    // "it read a key that the commit wrote; for a global one also, it writes a key that the commit read"
+    // "it read a key that the commit wrote; for a global one also, it writes a key that the commit read". Global or not is a flag: a local newcomer only
+    // skips the second half of this one test, and two functions would be twins.
     #[tactic(auto, unfolding(tables::specs::Tested::row_clash))]
-    fn clashes_with(self, row: Row<'_>, global: bool) -> bool
-        ensures { result ≡ row_clash global self.entry.reads.list.now self.entry.keys.list.now row.entry.words.now }
+    fn clashes_with(self, row: SoundRow<'_>, global: bool) -> bool
+        ensures { result ≡ row_clash global self.entry.reads.list.now self.entry.keys.list.now row.entry.row.words.now }
     {
         self.reads.meets(row.keys()) || global && self.keys.meets(row.reads())
     }
 
     // "is global, has DC <= rt, and has read no key that it writes": the row may be passed.
     #[tactic(auto, unfolding(tables::specs::Tested::row_passes))]
-    fn may_pass(self, row: Row<'_>, own: Partition, dc: u32) -> bool
-        ensures { result ≡ row_passes own.number dc self.entry.keys.list.now row.entry.words.now }
+    fn may_pass(self, row: SoundRow<'_>, own: Partition, dc: u32) -> bool
+        ensures { result ≡ row_passes own.number dc self.entry.keys.list.now row.entry.row.words.now }
     {
-        !masks::is_local(row.set(), own) && dc <= row.rt() && !row.reads().meets(self.keys)
+        !masks::is_local(row.row.set(), own) && dc <= row.row.rt() && !row.reads().meets(self.keys)
     }
 }
 

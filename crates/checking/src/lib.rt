@@ -14,7 +14,7 @@ ghost use Rattle.checking.specs.GoodRows.{part_good, sets_good, row_good};
 ghost use Rattle.checking.specs.Whole.{identity_at, counters_pass, kept_pass, identities_pass, waiting_pass};
 
 use masks::Partition;
-use tables::{Book, Sums, VERSIONS};
+use tables::{Book, READ_KEYS, Row, Sums, VERSIONS, WRITTEN_KEYS};
 
 // 01, "The ledger's sizes".
 const MOST_PARTITIONS: u32 = 8;
@@ -35,13 +35,6 @@ struct Opened {
     dc: u32,
     ghost few: { partitions ≤ 8 },
     ghost dc_fits: { dc ≤ most_dc },
-}
-
-// A row of 24 words, whatever stands in them.
-#[derive(Clone, Copy)]
-struct AnyRow<'a> {
-    words: &'a [u32],
-    ghost whole: { length words.now ≡ 24 },
 }
 
 // "Partitions | 1 to 8", our own one of them, "Threshold k | 0 to 31"
@@ -65,69 +58,37 @@ fn counters_fit(book: Book<'_>) -> bool
         && u64::from(book.sc()) + u64::from(waiting) <= u64::from(dc)
 }
 
-impl<'a> AnyRow<'a> {
-    // Row i of the waiting list.
-    #[tactic(auto, using(tables::specs::Good::waiting_whole))]
-    fn waiting(book: Book<'a>, i: usize) -> AnyRow<'a>
-        requires { i < 32 }
-        ensures { result.words.now ≡ waiting_words book.entry.words.now i }
-    {
-        AnyRow {
-            words: book.waiting_row(i),
-        }
-    }
+// "every stored set is within its limits and ascending", of so many keys that stand in a row from a place on. Where they are too many, none is looked at.
+#[tactic(auto, using(crate::specs::GoodRows::few_keys), unfolding(crate::specs::GoodRows::part_good))]
+fn is_part_good(row: Row<'_>, at: usize, count: u32) -> bool
+    requires { at ≤ 16 }
+    ensures { result ≡ part_good count (cut at count row.entry.words.now) }
+{
+    count <= MOST_KEYS && !keys::is_bad(&row.words[at..at + count as usize])
+}
 
-    // The row that keeps a version.
-    #[tactic(auto, using(tables::specs::Good::kept_whole))]
-    fn kept(book: Book<'a>, version: u32) -> AnyRow<'a>
-        ensures { result.words.now ≡ kept_words book.entry.words.now version }
-    {
-        AnyRow {
-            words: book.kept_row(version),
-        }
-    }
+// The two sets of a row: the keys read, and the keys written.
+#[tactic(auto, using(crate::specs::GoodRows::sets_parts))]
+fn are_sets_good(row: Row<'_>) -> bool
+    ensures { result ≡ sets_good row.entry.words.now }
+{
+    is_part_good(row, READ_KEYS, row.read_count())
+        && is_part_good(row, WRITTEN_KEYS, row.written_count())
+}
 
-    // The identity of a waiting row.
-    fn identity(self) -> u32
-        ensures { result ≡ get_or self.entry.words.now 0 0 }
-    {
-        self.words[0]
-    }
-
-    // "every stored set is within its limits and ascending", of so many keys that stand in the row from a place on. Where they are too many, none is looked at.
-    #[tactic(auto, using(crate::specs::GoodRows::few_keys), unfolding(crate::specs::GoodRows::part_good))]
-    fn is_part_good(self, at: usize, count: u32) -> bool
-        requires { at ≤ 16 }
-        ensures { result ≡ part_good count (cut at count self.entry.words.now) }
-    {
-        count <= MOST_KEYS && !keys::is_bad(&self.words[at..at + count as usize])
-    }
-
-    // The two sets of a row: the keys read, and the keys written.
-    #[tactic(auto, using(crate::specs::GoodRows::sets_parts))]
-    fn are_sets_good(self) -> bool
-        ensures { result ≡ sets_good self.entry.words.now }
-    {
-        self.is_part_good(8, self.words[6]) && self.is_part_good(16, self.words[7])
-    }
-
-    // Of one waiting row: its sets are good, its identity is nonzero, its partition set holds our own and none beyond the number opened, stored votes come
-    // from other involved partitions, and its rt is at most DC + 31.
-    #[tactic(auto, using(crate::specs::GoodRows::row_tests, crate::specs::GoodRows::set_byte))]
-    fn is_entry_good(self, opened: Opened) -> bool
-        ensures { result ≡ row_good opened.partitions opened.own.number opened.dc self.entry.words.now }
-    {
-        let set = self.words[1];
-        let rt = self.words[3];
-        let ayes = self.words[4];
-        let nays = self.words[5];
-        self.are_sets_good()
-            && self.identity() != 0
-            && !masks::is_bad_set(set, opened.partitions, opened.own.number)
-            && masks::are_from_others(set as u8, opened.own, ayes)
-            && masks::are_from_others(set as u8, opened.own, nays)
-            && rt <= opened.dc + MOST_K
-    }
+// Of one waiting row: its sets are good, its identity is nonzero, its partition set holds our own and none beyond the number opened, stored votes come
+// from other involved partitions, and its rt is at most DC + 31.
+#[tactic(auto, using(crate::specs::GoodRows::row_tests, crate::specs::GoodRows::set_byte))]
+fn is_entry_good(row: Row<'_>, opened: Opened) -> bool
+    ensures { result ≡ row_good opened.partitions opened.own.number opened.dc row.entry.words.now }
+{
+    let set = row.set();
+    are_sets_good(row)
+        && row.identity() != 0
+        && !masks::is_bad_set(set, opened.partitions, opened.own.number)
+        && masks::are_from_others(set as u8, opened.own, row.ayes())
+        && masks::are_from_others(set as u8, opened.own, row.nays())
+        && row.rt() <= opened.dc + MOST_K
 }
 
 // So many rows of the waiting list, whatever stands in them.
@@ -143,21 +104,21 @@ impl AnyRows<'_> {
     fn are_good(self, opened: Opened) -> bool
         ensures { result ≡ waiting_pass opened.partitions opened.own.number opened.dc self.entry.count self.entry.book.words.now }
     {
-        (0..self.count).all(|i| AnyRow::waiting(self.book, i).is_entry_good(opened))
+        (0..self.count).all(|i| is_entry_good(self.book.waiting_row(i), opened))
     }
 
     // An identity stands in one of the rows from a place on.
     fn have(self, identity: u32, from: usize) -> bool
         ensures { result ≡ member identity (rest self.entry.count (identity_at self.entry.book.words.now) from) }
     {
-        (from..self.count).any(|i| identity == AnyRow::waiting(self.book, i).identity())
+        (from..self.count).any(|i| identity == self.book.waiting_row(i).identity())
     }
 
     // "waiting identities are .. different": none stands in a later row too.
     fn differ(self) -> bool
         ensures { result ≡ identities_pass self.entry.count self.entry.book.words.now }
     {
-        (0..self.count).all(|i| !self.have(AnyRow::waiting(self.book, i).identity(), i + 1))
+        (0..self.count).all(|i| !self.have(self.book.waiting_row(i).identity(), i + 1))
     }
 }
 
@@ -165,7 +126,7 @@ impl AnyRows<'_> {
 fn kept_good(book: Book<'_>, sc: u32) -> bool
     ensures { result ≡ kept_pass sc book.entry.words.now }
 {
-    (0..sc.min(VERSIONS)).all(|j| AnyRow::kept(book, sc - j).are_sets_good())
+    (0..sc.min(VERSIONS)).all(|j| are_sets_good(book.kept_row(sc - j)))
 }
 
 // "A state is sound when", of the state that the tables hold. Amounts never matter to it.

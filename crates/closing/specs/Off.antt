@@ -1,9 +1,9 @@
 -- A head taken off on the tables: what each of the two ways leaves is the desk with its head off.
-use Rattle.std.specs.Prelude.{ℕ, suc, ◌+◌, ◌*◌, ◌-◌, ◌≤◌, ◌<◌, true, false, cond, List, [], ◌∷◌, ◌≡◌, ℤ, get_or}
+use Rattle.std.specs.Prelude.{ℕ, suc, ◌+◌, ◌*◌, ◌-◌, ◌≤◌, ◌<◌, true, false, cond, List, [], ◌∷◌, ◌≡◌, refl, ℤ, get_or}
 use Rattle.std.proofs.Common.{sym, ap, ◌∙◌, subst, arith}
 use Rattle.rules.specs.Ledger.{Clock}
 use Rattle.rules.specs.Closing.{ready, commits, finish}
-use Rattle.laws.specs.Cuts.{put, get_or_cut}
+use Rattle.laws.specs.Cuts.{put}
 use Rattle.tables.specs.Rows.{row_transaction, row_entry}
 use Rattle.tables.specs.View.{waiting_words, entry_at, length_waiting, books_view}
 use Rattle.tables.specs.TakenOff.{off_book, off_sums}
@@ -14,7 +14,6 @@ use Rattle.tables.specs.Bytes.{ByteSets, entry_bytes}
 use Rattle.tables.specs.Closed.{Desk, Fit, head_of, entry_words, kept_desk, told_desk, off_desk, head_off, head_off_fit, head_off_waiting, close_desk}
 use Rattle.tables.specs.Counters.{with_counters}
 use Rattle.tables.specs.Settled.{closed_desk, settled_book}
-use Rattle.closing.specs.Heads.{head_word}
 
 -- The head's tests, on its words.
 head_ready : (c : Clock) (d : Desk) → ready c (head_of d) ≡ row_ready c.own c.dc (waiting_words d.book 0)
@@ -25,9 +24,9 @@ head_commits : (c : Clock) (d : Desk) → commits c (head_of d) ≡ row_commits 
 unfolding entry_at
 head_commits c d = commits_row c (waiting_words d.book 0) _
 
-head_identity : (d : Desk) → (head_of d).transaction.identity ≡ get_or d.book 6 0
-unfolding entry_at row_entry row_transaction waiting_words
-head_identity d = get_or_cut 6 24 d.book 0 0 (omega arith)
+head_identity : (d : Desk) → (head_of d).transaction.identity ≡ get_or (waiting_words d.book 0) 0 0
+unfolding entry_at row_entry row_transaction
+head_identity d = refl
 
 -- The two ways.
 off_committed : (c : Clock) (n : ℕ) (d : Desk) → row_commits c.own (waiting_words d.book 0) ≡ true
@@ -37,7 +36,7 @@ off_committed : (c : Clock) (n : ℕ) (d : Desk) → row_commits c.own (waiting_
       finished = d.finished + 1;
       book = off_book (committed_book d.book d.sc) n;
       sums = off_sums (committed_sums d.book d.sums d.sc) n;
-      finishes = put d.finishes (2 * d.finished) (get_or d.book 6 0 ∷ (d.sc + 1) ∷ []);
+      finishes = put d.finishes (2 * d.finished) (get_or (waiting_words d.book 0) 0 0 ∷ (d.sc + 1) ∷ []);
     }) (head_off c n d)
 unfolding head_off off_desk kept_desk told_desk entry_words finish books_view
 off_committed c n d q = rw (head_commits c d ∙ q, head_identity d)
@@ -49,7 +48,7 @@ off_aborted : (c : Clock) (n : ℕ) (d : Desk) → row_commits c.own (waiting_wo
       finished = d.finished + 1;
       book = off_book d.book n;
       sums = off_sums d.sums n;
-      finishes = put d.finishes (2 * d.finished) (get_or d.book 6 0 ∷ 0 ∷ []);
+      finishes = put d.finishes (2 * d.finished) (get_or (waiting_words d.book 0) 0 0 ∷ 0 ∷ []);
     }) (head_off c n d)
 unfolding head_off off_desk kept_desk told_desk entry_words finish books_view
 off_aborted c n d q = rw (head_commits c d ∙ q, head_identity d)
@@ -57,7 +56,7 @@ off_aborted c n d q = rw (head_commits c d ∙ q, head_identity d)
 -- The same, of what each call left.
 pub left_committed : (c : Clock) (n : ℕ) (d : Desk) {kept_book after_book : List ℕ} {kept_sums after_sums : List ℤ} {told : List ℕ}
     → row_commits c.own (waiting_words d.book 0) ≡ true
-    → told ≡ put d.finishes (2 * d.finished) (get_or d.book 6 0 ∷ (d.sc + 1) ∷ [])
+    → told ≡ put d.finishes (2 * d.finished) (get_or (waiting_words d.book 0) 0 0 ∷ (d.sc + 1) ∷ [])
     → kept_book ≡ committed_book d.book d.sc → kept_sums ≡ committed_sums d.book d.sums d.sc
     → after_book ≡ off_book kept_book n → after_sums ≡ off_sums kept_sums n
     → ◌≡◌ {A = Desk} (record { sc = d.sc + 1; waiting = n; finished = d.finished + 1; book = after_book; sums = after_sums; finishes = told }) (head_off c n d)
@@ -65,7 +64,7 @@ left_committed c n d q told kept kept_sums off off_sums = rw (told, off, off_sum
 
 pub left_aborted : (c : Clock) (n : ℕ) (d : Desk) {after_book : List ℕ} {after_sums : List ℤ} {told : List ℕ}
     → row_commits c.own (waiting_words d.book 0) ≡ false
-    → told ≡ put d.finishes (2 * d.finished) (get_or d.book 6 0 ∷ 0 ∷ [])
+    → told ≡ put d.finishes (2 * d.finished) (get_or (waiting_words d.book 0) 0 0 ∷ 0 ∷ [])
     → after_book ≡ off_book d.book n → after_sums ≡ off_sums d.sums n
     → ◌≡◌ {A = Desk} (record { sc = d.sc; waiting = n; finished = d.finished + 1; book = after_book; sums = after_sums; finishes = told }) (head_off c n d)
 left_aborted c n d q told off off_sums = rw (told, off, off_sums) (off_aborted c n d q)
@@ -97,13 +96,12 @@ closed_more c d next after some q is_off is_closed =
 pub fit_next : (c : Clock) (d next : Desk) → (d.waiting ≡ 0 → ⊥) → Fit c d → next ≡ head_off c (d.waiting - 1) d → Fit c next
 fit_next c d next some h is_off = subst (Fit c) (sym is_off) (head_off_fit c (d.waiting - 1) d (one_less d.waiting some) h)
 
-pub head_bytes : (c : Clock) (d : Desk) → (d.waiting ≡ 0 → ⊥) → Fit c d → ByteSets (get_or d.book 7 0) (get_or d.book 10 0) (get_or d.book 11 0)
+pub head_bytes : (c : Clock) (d : Desk) → (d.waiting ≡ 0 → ⊥) → Fit c d
+    → ByteSets (get_or (waiting_words d.book 0) 1 0) (get_or (waiting_words d.book 0) 4 0) (get_or (waiting_words d.book 0) 5 0)
 unfolding entry_at
 head_bytes c d some h =
     let good = waiting_entry_good c.partitions c.own c.dc d.waiting d.book d.sums h.sound.entries_good 0 (omega arith) in
-    let bytes = entry_bytes c.partitions c.own c.dc (waiting_words d.book 0) _ h.sound.sizes.few_partitions good in
-    let word = head_word d.book in
-    rw (word 1 (omega arith), word 4 (omega arith), word 5 (omega arith)) at bytes
+    entry_bytes c.partitions c.own c.dc (waiting_words d.book 0) _ h.sound.sizes.few_partitions good
 
 pub fit_kept : (c : Clock) (d : Desk) → Fit c d → KeptGood d.sc d.book
 unfolding books_view

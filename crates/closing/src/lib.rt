@@ -13,7 +13,8 @@ use head::Head;
 use masks::Partition;
 use tables::{Book, Ledger};
 
-// The counters that a delivery and a change touch, and the sizes at opening.
+// The counters that a delivery and a change touch, and the sizes at opening. Clock and tally are two structs by who changes them: closing changes the
+// tally alone.
 #[derive(Clone, Copy)]
 pub struct Clock {
     pub partitions: u32,
@@ -24,6 +25,7 @@ pub struct Clock {
 
 impl Clock {
     // The clock that a book holds.
+    #[tactic(auto, unfolding(tables::specs::View::clock_view))]
     pub fn of(book: Book<'_>) -> Clock
         ensures { clock_of result ≡ clock_view book.entry.words.now }
     {
@@ -68,10 +70,10 @@ fn take_head(c: Clock, t: Tally, ledger: &mut Ledger<'_>, finishes: &mut [u32]) 
     ensures after { desk_of result ledger.new.book.now ledger.new.sums.now finishes.new ≡ head_off (clock_of c) (t.waiting - 1) (desk_of t ledger.old.book.now ledger.old.sums.now finishes.old) }
 {
     let head = Head {
-        book: ledger.as_book(),
+        row: ledger.as_book().waiting_row(0),
         own: Partition { number: c.own },
     };
-    let identity = head.identity();
+    let identity = head.row.identity();
     let told = t.finished as usize;
     let left = t.waiting - 1;
     let next = Tally {
@@ -105,7 +107,7 @@ pub fn close(c: Clock, t: Tally, ledger: &mut Ledger<'_>, finishes: &mut [u32]) 
         return t;
     }
     let head = Head {
-        book: ledger.as_book(),
+        row: ledger.as_book().waiting_row(0),
         own: Partition { number: c.own },
     };
     if !head.is_ready(c.dc) {

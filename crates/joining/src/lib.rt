@@ -13,15 +13,9 @@ ghost use Rattle.tables.specs.Voted.{voted_book};
 
 use masks::Partition;
 use moves::{lay, move_within};
-use tables::{AMOUNTS, COUNTERS, Ledger, ROW, Transaction};
-
-// The amounts of waiting rows stand behind the values, one for each of 1,024 keys.
-const VALUES: usize = 1024;
-
-// Where a row has the keys read, and the keys written: behind its eight words, and behind 8 keys read.
-const READS: usize = 8;
-
-const KEYS: usize = 16;
+use tables::{
+    AMOUNTS, COUNTERS, Ledger, READ_KEYS, ROW, Transaction, WAITING_AMOUNTS, WRITTEN_KEYS,
+};
 
 // A newcomer's row: the eight words, without votes, then the keys read, then the keys written.
 #[tactic(auto, unfolding(tables::specs::NewRow::with_row))]
@@ -34,8 +28,8 @@ fn lay_row(book: &mut [u32], at: usize, rt: u32, t: Transaction<'_>)
     let reads = t.reads.len() as u32;
     let keys = t.keys.len() as u32;
     lay(book, at, &[t.identity, t.set, t.st, rt, 0, 0, reads, keys]);
-    lay(book, at + READS, t.reads);
-    lay(book, at + KEYS, t.keys);
+    lay(book, at + READ_KEYS, t.reads);
+    lay(book, at + WRITTEN_KEYS, t.keys);
 }
 
 // A newcomer joins the n that wait, at place i: the rows and amounts from there on move up by one.
@@ -52,7 +46,7 @@ pub fn join(ledger: &mut Ledger<'_>, n: usize, i: usize, rt: u32, t: Transaction
     ensures sums_after { ledger.new.sums.now ≡ joined_sums ledger.old.sums.now n i t.entry.amounts.now }
 {
     let row = COUNTERS + ROW * i;
-    let amounts = VALUES + AMOUNTS * i;
+    let amounts = WAITING_AMOUNTS + AMOUNTS * i;
     move_within(ledger.book, row, row + ROW, ROW * (n - i));
     lay_row(ledger.book, row, rt, t);
     move_within(ledger.sums, amounts, amounts + AMOUNTS, AMOUNTS * (n - i));
@@ -69,7 +63,12 @@ pub fn take_off(ledger: &mut Ledger<'_>, n: usize)
     ensures sums_after { ledger.new.sums.now ≡ off_sums ledger.old.sums.now n }
 {
     move_within(ledger.book, COUNTERS + ROW, COUNTERS, ROW * n);
-    move_within(ledger.sums, VALUES + AMOUNTS, VALUES, AMOUNTS * n);
+    move_within(
+        ledger.sums,
+        WAITING_AMOUNTS + AMOUNTS,
+        WAITING_AMOUNTS,
+        AMOUNTS * n,
+    );
 }
 
 // A finish entry behind the m that are written: identity, and version or 0 for an abort.

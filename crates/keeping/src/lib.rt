@@ -10,12 +10,10 @@ ghost use Rattle.tables.specs.Keeping.{folded_sums, evicted_sums, committed_book
 ghost use Rattle.tables.specs.Good.{KeptGood};
 
 use moves::move_within;
-use tables::{AMOUNTS, Book, COUNTERS, KEPT_ROWS, Kept, Ledger, ROW, Sums, VERSIONS};
-
-// The amounts of waiting rows stand behind the values, those of kept rows behind them.
-const WAITING_AMOUNTS: usize = 1024;
-
-const KEPT_AMOUNTS: usize = 1280;
+use tables::{
+    AMOUNTS, Book, COUNTERS, KEPT_AMOUNTS, KEPT_ROWS, Kept, Ledger, ROW, Sums, VERSIONS,
+    WAITING_AMOUNTS,
+};
 
 // Which of the 64 kept rows a version has.
 fn slot(version: u32) -> usize

@@ -37,6 +37,7 @@ impl Keys<'_> {
     pub fn smallest_shared(self, other: Keys<'_>) -> Option<u32>
         ensures { result ≡ given (shared self.entry.list.now other.entry.list.now) }
     {
+        // two lists at once, each at its own pace: no `for` and no chain of the library walks so
         let mut ours = self.list;
         let mut theirs = other.list;
         while let (Some((one, our_rest)), Some((their, their_rest))) = (

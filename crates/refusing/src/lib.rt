@@ -19,13 +19,6 @@ mod refusals;
 pub use refusals::Refusal;
 use tables::{BOOK, Book, Lent, SUMS, Sums, Transaction};
 
-// What is asked of a row here, by its place in the row.
-const SET: usize = 1; // its partition set
-
-const AYES: usize = 4; // who said yes
-
-const NAYS: usize = 5; // who said no
-
 // 01, "The ledger's sizes".
 const MOST_KEYS: usize = 8;
 
@@ -106,7 +99,7 @@ pub fn row_of(book: Book<'_>, count: usize, identity: u32) -> Option<usize>
     requires { count ≤ 32 }
     ensures { result ≡ row_among identity count book.entry.words.now }
 {
-    (0..count).position(|i| book.waiting_row(i)[0] == identity)
+    (0..count).position(|i| book.waiting_row(i).identity() == identity)
 }
 
 impl Usable<'_> {
@@ -163,17 +156,17 @@ impl Usable<'_> {
     }
 
     // A vote's numbers: those of the one row that has the identity.
-    #[tactic(auto, using(crate::specs::Votes::word, tables::specs::Good::waiting_whole), unfolding(crate::specs::Votes::vote_words, crate::specs::Votes::row_number))]
+    #[tactic(auto, using(crate::specs::Votes::word), unfolding(crate::specs::Votes::vote_words, crate::specs::Votes::row_number))]
     fn check_vote(self, identity: u32, p: u32) -> Result<usize, Refusal>
         ensures number { told result ≡ vote_words identity p self.entry.book.words.now }
         ensures row { IfOk result (λ i. i ≡ index_of identity (waiting_identities self.entry.book.words.now)) }
     {
         let i = self.row_of(identity).ok_or(Refusal::NotWaiting)?;
         let row = self.book.waiting_row(i);
-        if !masks::is_other(row[SET], self.book.own(), p) {
+        if !masks::is_other(row.set(), self.book.own(), p) {
             return Err(Refusal::NotAsked);
         }
-        if masks::has(row[AYES], p) || masks::has(row[NAYS], p) {
+        if masks::has(row.ayes(), p) || masks::has(row.nays(), p) {
             return Err(Refusal::HasVoted);
         }
         Ok(i)

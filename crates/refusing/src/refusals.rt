@@ -2,9 +2,6 @@
 ghost use Rattle.std.specs.Prelude.{◌≡◌};
 ghost use Rattle.refusing.specs.Told.{numbered};
 
-use std::error::Error;
-use std::fmt;
-
 // Why an operation is refused: "Numbers the desk hands back", each with its condition.
 #[derive(Clone, Copy, Debug, PartialEq, Eq)]
 pub enum Refusal {
@@ -48,29 +45,3 @@ impl Refusal {
         self as u32
     }
 }
-
-impl fmt::Display for Refusal {
-    fn fmt<W: fmt::Write>(&self, f: &mut fmt::Formatter<W>) -> fmt::Result {
-        f.write_str(match self {
-            Refusal::PartitionSet =>
-                "the partition set lacks our own, or names one beyond the number opened",
-            Refusal::ManyKeys => "more than 8 keys read or more than 8 written",
-            Refusal::Key => "a key over 1,023, or keys not strictly ascending",
-            Refusal::Identity => "identity 0, or an identity now waiting",
-            Refusal::SnapshotAhead => "a snapshot beyond the last commit",
-            Refusal::SnapshotFolded => "a snapshot below the floor",
-            Refusal::FullList => "32 already waiting",
-            Refusal::LastDelivery => "as many delivered as can be counted",
-            Refusal::NotWaiting => "the identity does not wait",
-            Refusal::NotAsked => "a vote from our own partition, or from one not involved",
-            Refusal::HasVoted => "that partition has voted on it",
-            Refusal::Threshold => "a threshold over 31",
-            Refusal::Unusable =>
-                "sizes outside the table, a state that is not sound, or a lent table too short",
-            Refusal::Unreadable => "an unreadable line",
-            Refusal::LittleRoom => "the lent finish list holds fewer than 32 entries",
-        })
-    }
-}
-
-impl Error for Refusal {}

@@ -140,11 +140,17 @@ module _ (w : List ℕ) (whole : length w ≡ 24) (good : GoodRow w) where
   unfolding row_keys
   keys_of_row = let few = good.few_keys in tab_cut 16 (get_or w 7 0) w 0 (omega arith)
 
+  pub reads_taken : take (8 + get_or w 6 0 - 8) (drop 8 w) ≡ row_reads w
+  reads_taken = part_cut 8 (get_or w 6 0) w ∙ sym reads_of_row
+
+  pub keys_taken : take (16 + get_or w 7 0 - 16) (drop 16 w) ≡ row_keys w
+  keys_taken = part_cut 16 (get_or w 7 0) w ∙ sym keys_of_row
+
   pub reads_of_row_ascend : ascending (take (8 + get_or w 6 0 - 8) (drop 8 w)) ≡ true
-  reads_of_row_ascend = ap ascending (part_cut 8 (get_or w 6 0) w ∙ sym reads_of_row) ∙ good.reads_good.ascends
+  reads_of_row_ascend = ap ascending reads_taken ∙ good.reads_good.ascends
 
   pub keys_of_row_ascend : ascending (take (16 + get_or w 7 0 - 16) (drop 16 w)) ≡ true
-  keys_of_row_ascend = ap ascending (part_cut 16 (get_or w 7 0) w ∙ sym keys_of_row) ∙ good.keys_good.ascends
+  keys_of_row_ascend = ap ascending keys_taken ∙ good.keys_good.ascends
 
 -- A row in a long enough table is whole.
 module _ (book : List ℕ) (long : book_words ≤ length book) where

@@ -3,7 +3,7 @@ ghost use Rattle.std.specs.Prelude.{◌≤◌, ◌<◌, ◌≡◌, length, get_o
 ghost use Rattle.tables.specs.Layout.{book_words, sums_words, partitions_at, own_at, sc_at, dc_at, k_at, waiting_at};
 ghost use Rattle.tables.specs.View.{waiting_words, kept_words};
 
-use crate::{COUNTERS, KEPT_ROWS, ROW, VERSIONS};
+use crate::{COUNTERS, KEPT_ROWS, ROW, Row, VERSIONS};
 
 // Words that are long enough for every counter and row, whatever stands in them.
 #[derive(Clone, Copy)]
@@ -53,20 +53,26 @@ impl<'a> Book<'a> {
     }
 
     // Row i of the waiting list.
-    pub fn waiting_row(self, i: usize) -> &'a [u32]
+    #[tactic(auto, using(laws::specs::Cuts::part_cut), unfolding(crate::specs::View::waiting_words))]
+    pub fn waiting_row(self, i: usize) -> Row<'a>
         requires { i < 32 }
-        ensures { result.now ≡ waiting_words self.entry.words.now i }
+        ensures { result.words.now ≡ waiting_words self.entry.words.now i }
     {
         let at = COUNTERS + ROW * i;
-        &self.words[at..at + ROW]
+        Row {
+            words: &self.words[at..at + ROW],
+        }
     }
 
     // The row that keeps a version: one of 64.
-    pub fn kept_row(self, version: u32) -> &'a [u32]
-        ensures { result.now ≡ kept_words self.entry.words.now version }
+    #[tactic(auto, using(laws::specs::Cuts::part_cut), unfolding(crate::specs::View::kept_words))]
+    pub fn kept_row(self, version: u32) -> Row<'a>
+        ensures { result.words.now ≡ kept_words self.entry.words.now version }
     {
         let at = KEPT_ROWS + ROW * (version % VERSIONS) as usize;
-        &self.words[at..at + ROW]
+        Row {
+            words: &self.words[at..at + ROW],
+        }
     }
 }
 

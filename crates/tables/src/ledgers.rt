@@ -30,6 +30,7 @@ impl Ledger<'_> {
 }
 
 // A transaction as it is delivered: the keys read, the keys written, and an amount for each key written.
+// Keys and amounts stand side by side, as C lends them, and in no list of pairs: lists of different lengths are refused.
 #[derive(Clone, Copy)]
 pub struct Transaction<'a> {
     pub identity: u32,

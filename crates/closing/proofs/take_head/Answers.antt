@@ -7,7 +7,7 @@ use Rattle.closing.proofs.take_head.Goals as goal
 pub invariant_of-head-2 : goal.invariant_of-head-2
 invariant_of-head-2 c =
     let bytes = head_bytes _ _ c.requires.some_wait c.requires.fit in
-    record { byte_sets = rw c.as_book.ensures bytes }
+    record { byte_sets = rw (c.waiting_row.ensures, c.as_book.ensures) bytes }
 
 pub overflow_add-version : goal.overflow_add-version
 overflow_add-version c = omega (arith, (fit_numbers _ _ c.requires.fit).sc_fits)
@@ -20,12 +20,12 @@ keep-requires-clause-sc_bound c = omega (arith, (fit_numbers _ _ c.requires.fit)
 
 pub returns-then-is_commit-clause-after : goal.returns-then-is_commit-clause-after
 returns-then-is_commit-clause-after c =
-    let commits = rw c.as_book.ensures at (sym c.is_commit.ensures ∙ c.if-is_commit.true) in
-    let told = rw (c.identity-identity.ensures, c.as_book.ensures) at c.tell.ensures in
+    let commits = rw (c.waiting_row.ensures, c.as_book.ensures) at (sym c.is_commit.ensures ∙ c.if-is_commit.true) in
+    let told = rw (c.identity-identity.ensures, c.waiting_row.ensures, c.as_book.ensures) at c.tell.ensures in
     left_committed _ _ _ commits told c.keep.ensures.book_after c.keep.ensures.sums_after c.take_off.ensures.book_after c.take_off.ensures.sums_after
 
 pub returns-clause-after : goal.returns-clause-after
 returns-clause-after c =
-    let commits = rw c.as_book.ensures at (sym c.is_commit.ensures ∙ c.if-is_commit.false) in
-    let told = rw (c.identity-identity.ensures, c.as_book.ensures) at c.tell-2.ensures in
+    let commits = rw (c.waiting_row.ensures, c.as_book.ensures) at (sym c.is_commit.ensures ∙ c.if-is_commit.false) in
+    let told = rw (c.identity-identity.ensures, c.waiting_row.ensures, c.as_book.ensures) at c.tell-2.ensures in
     left_aborted _ _ _ commits told c.take_off-2.ensures.book_after c.take_off-2.ensures.sums_after

@@ -1,16 +1,11 @@
 -- `refusing::row_of` meets its contract: the search stops at the first row that begins with the identity, or none does. Assumes nothing.
 use Rattle.std.proofs.Common.{rules, arith, refl, eqb, get_or}
 use borrow.Author.Tests.{tests}
-use Rattle.std.proofs.lemmas.Iterator.{YieldsList-from_range, serves_from_Range}
+use Rattle.std.proofs.lemmas.Iterator.{YieldsList-from_range}
 use Rattle.std.proofs.lemmas.Iterator.Search.{position_from_yields_List}
 use Rattle.tables.specs.View.{waiting_words}
-use Rattle.tables.specs.Good.{waiting_whole}
 use Rattle.refusing.specs.Seeking.{found_row}
 use Rattle.refusing.proofs.row_of.Goals as goal
-
-pub position-requires-clause-callable : goal.position-requires-clause-callable
-position-requires-clause-callable c =
-    serves_from_Range (λ x q k. search (rules, tests)) (λ x low high. grind (arith, waiting_whole, c.requires, c.args.book.long))
 
 pub returns : goal.returns
 returns c =
