@@ -14,9 +14,9 @@ ghost use Rattle.checking.specs.GoodRows.{part_good, sets_good, row_good};
 ghost use Rattle.checking.specs.Whole.{identity_at, counters_pass, kept_pass, identities_pass, waiting_pass};
 
 use masks::Partition;
-use tables::{Book, READ_KEYS, Row, Sums, VERSIONS, WRITTEN_KEYS};
+use tables::{Book, READ_KEYS, Row, Sizes, Sums, VERSIONS, WRITTEN_KEYS};
 
-// 01, "The ledger's sizes".
+// 01, "The ledger's sizes": the limits of this check alone, so that a wrong one shows here.
 const MOST_PARTITIONS: u32 = 8;
 
 const MOST_KEYS: u32 = 8;
@@ -39,10 +39,12 @@ struct Opened {
 
 // "Partitions | 1 to 8", our own one of them, "Threshold k | 0 to 31"
 #[tactic(auto, unfolding(rules::specs::Ledger::sizes_fit))]
-pub fn sizes_fit(partitions: u32, own: u32, k: u32) -> bool
-    ensures { result ≡ sizes_fit partitions own k }
+pub fn sizes_fit(sizes: Sizes) -> bool
+    ensures { result ≡ sizes_fit sizes.partitions sizes.own sizes.k }
 {
-    (1..=MOST_PARTITIONS).contains(&partitions) && own < partitions && k <= MOST_K
+    (1..=MOST_PARTITIONS).contains(&sizes.partitions)
+        && sizes.own < sizes.partitions
+        && sizes.k <= MOST_K
 }
 
 // "sizes fit the table", "SC plus waiting is at most DC"
@@ -52,7 +54,7 @@ fn counters_fit(book: Book<'_>) -> bool
 {
     let dc = book.dc();
     let waiting = book.waiting();
-    sizes_fit(book.partitions(), book.own(), book.k())
+    sizes_fit(book.sizes())
         && dc <= MOST_DC
         && waiting <= MOST_WAITING
         && u64::from(book.sc()) + u64::from(waiting) <= u64::from(dc)

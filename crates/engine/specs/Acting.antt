@@ -6,8 +6,8 @@ use Rattle.rules.specs.Partitions.{only}
 use Rattle.rules.specs.Ledger as rules
 use Rattle.tables.specs.Closed.{Desk}
 use Rattle.tables.specs.Settled.{closed_desk, settled_book}
-use Rattle.engine.specs.declared.answers.Ballot.{Ballot}
-use Rattle.engine.specs.declared.answers.Ballot.TheVariants.{Yes, No}
+use Rattle.masks.specs.declared.Ballot.{Ballot}
+use Rattle.masks.specs.declared.Ballot.TheVariants.{Yes, No}
 use Rattle.engine.specs.declared.answers.Reason.{Reason}
 use Rattle.engine.specs.Fates.{send_if}
 use Rattle.engine.specs.Delivering.{delivered_result}

@@ -8,7 +8,7 @@ use Rattle.tables.specs.View.{view}
 use Rattle.tables.specs.Closed.{words_of}
 use Rattle.refusing.specs.declared.refusals.Refusal.{Refusal}
 use Rattle.refusing.specs.Told.{numbered}
-use Rattle.engine.specs.declared.answers.Ballot.{Ballot}
+use Rattle.masks.specs.declared.Ballot.{Ballot}
 use Rattle.engine.specs.declared.answers.Reason.{Reason}
 use Rattle.engine.specs.declared.answers.Delivered.{Delivered}
 use Rattle.engine.specs.declared.answers.Reading.{Reading}

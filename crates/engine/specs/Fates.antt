@@ -5,8 +5,8 @@ use Rattle.std.specs.declared.option.Option as code
 use Rattle.std.proofs.Math.Option.{Option, some, none}
 use Rattle.rules.specs.Partitions as rules
 use Rattle.rules.specs.Delivery.{Fate, abort, join, placed}
-use Rattle.engine.specs.declared.answers.Ballot.{Ballot}
-use Rattle.engine.specs.declared.answers.Ballot.TheVariants.{Yes, No}
+use Rattle.masks.specs.declared.Ballot.{Ballot}
+use Rattle.masks.specs.declared.Ballot.TheVariants.{Yes, No}
 use Rattle.engine.specs.declared.answers.Reason.{Reason}
 use Rattle.engine.specs.declared.answers.Reason.TheVariants.{Commit, Waiting, NoPlace}
 
@@ -16,7 +16,7 @@ reason_number Commit = 1
 reason_number Waiting = 2
 reason_number NoPlace = 3
 
--- The reason that a number names. A number over 3 names none, and stands for the last.
+-- The reason that a number names. Any other number names none, and stands for the last.
 abbrev pub reason_of : ℕ → Reason
 reason_of n = cond (eqb n 1) Commit (cond (eqb n 2) Waiting NoPlace)
 
@@ -39,11 +39,6 @@ pub placed_fated : (o : Option ℕ) → fated (fate_of (placed o)) ≡ placed o
 unfolding placed
 placed_fated none = refl
 placed_fated (some i) = refl
-
--- A vote as the yes or no that a table keeps.
-abbrev pub says_yes : Ballot → Bool
-says_yes Yes = true
-says_yes No = false
 
 -- The vote to send: none for a local one, else yes where it joins.
 abbrev pub send_if : Bool → Bool → code.Option Ballot

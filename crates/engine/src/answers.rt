@@ -1,23 +1,9 @@
 // What the operations answer.
 ghost use Rattle.std.specs.Prelude.{◌≡◌};
-ghost use Rattle.engine.specs.Fates.{reason_number, says_yes};
+ghost use Rattle.engine.specs.Fates.{reason_number};
 
+use masks::Ballot;
 use refusing::Refusal;
-
-// A vote: yes or no.
-#[derive(Clone, Copy, Debug, PartialEq, Eq)]
-pub enum Ballot {
-    Yes,
-    No,
-}
-
-impl Ballot {
-    pub fn is_yes(self) -> bool
-        ensures { result ≡ says_yes self }
-    {
-        matches!(self, Ballot::Yes)
-    }
-}
 
 // Why a delivery is aborted; each reason's number is the one that the answer gives.
 #[derive(Clone, Copy, Debug, PartialEq, Eq)]

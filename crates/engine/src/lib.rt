@@ -7,13 +7,14 @@ mod judging;
 mod taking;
 
 ghost use Rattle.std.specs.Prelude.{[], ◌≡◌};
-ghost use Rattle.engine.specs.Fates.{says_yes};
+ghost use Rattle.masks.specs.Ballots.{says_yes};
 ghost use Rattle.engine.specs.Operations.{left, delivering, voting, changing, reading, opened};
 
-pub use answers::{Ballot, Delivered, Reading, Reason};
+pub use answers::{Delivered, Reading, Reason};
+pub use masks::Ballot;
 use masks::Partition;
 pub use refusing::Refusal;
-pub use tables::Transaction;
+pub use tables::{Sizes, Transaction};
 use tables::{Book, Kept, Ledger, Lent, Sums};
 
 // "Delivery."
@@ -44,7 +45,7 @@ pub fn vote(
     let i = refusing::check_vote(identity, partition, Lent { book, sums }, finishes.len())?;
     let from = Partition { number: partition };
     let mut ledger = Ledger { book, sums };
-    Ok(taking::take_vote(i, from, ballot.is_yes(), &mut ledger, finishes))
+    Ok(taking::take_vote(i, from, ballot, &mut ledger, finishes))
 }
 
 // "Threshold change. The new k holds for later deliveries only." How many finishes were written.
@@ -80,17 +81,11 @@ pub fn read(key: u32, st: Option<u32>, book: &[u32], sums: &[i64]) -> Reading
 }
 
 // Opening: so many partitions, our own one of them, the threshold k. The tables may hold anything before.
-pub fn open(
-    partitions: u32,
-    own: u32,
-    k: u32,
-    book: &mut [u32],
-    sums: &mut [i64],
-) -> Result<(), Refusal>
-    ensures { left result book.new sums.new [] ≡ opened partitions own k book.old sums.old }
+pub fn open(sizes: Sizes, book: &mut [u32], sums: &mut [i64]) -> Result<(), Refusal>
+    ensures { left result book.new sums.new [] ≡ opened sizes.partitions sizes.own sizes.k book.old sums.old }
 {
-    refusing::check_opening(partitions, own, k, Lent { book, sums })?;
+    refusing::check_opening(sizes, Lent { book, sums })?;
     let mut ledger = Ledger { book, sums };
-    opening::open_tables(&mut ledger, partitions, own, k);
+    opening::open_tables(&mut ledger, sizes);
     Ok(())
 }

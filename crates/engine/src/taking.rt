@@ -7,18 +7,19 @@ ghost use Rattle.tables.specs.Settled.{Ready};
 ghost use Rattle.closing.specs.Desks.{clock_of, desk_of};
 ghost use Rattle.engine.specs.Operations.{left, delivered_on};
 ghost use Rattle.engine.specs.Delivering.{Accepting, delivered_result};
+ghost use Rattle.masks.specs.Ballots.{says_yes};
 ghost use Rattle.engine.specs.Fates.{send_if};
 ghost use Rattle.engine.specs.Voting.{desk_before, voted_desk, settled_result};
 ghost use Rattle.engine.specs.Storing.{Votable};
 
-use crate::{Ballot, Delivered, Reason, judging};
+use crate::{Delivered, Reason, judging};
 use certifying::Newcomer;
 use closing::{Clock, Tally};
 use keys::Keys;
-use masks::Partition;
+use masks::{Ballot, Partition};
 use tables::{Ledger, Transaction};
 
-// The vote to send: none for a local transaction, else yes where it joins.
+// The vote to send: none for a local transaction, else yes where it joins (the plain answer of a test, and so a bool).
 fn vote_for(set: u32, own: Partition, joins: bool) -> Option<Ballot>
     ensures { result ≡ send_if (eqb set (only own.number)) joins }
 {
@@ -31,7 +32,7 @@ fn vote_for(set: u32, own: Partition, joins: bool) -> Option<Ballot>
     Some(Ballot::No)
 }
 
-// A delivery whose fate is known: closing.
+// A delivery whose fate is known: closing. What it is given goes together nowhere else.
 fn settle_delivery(
     c: Clock,
     t: Tally,
@@ -91,18 +92,18 @@ pub fn take_delivery(t: Transaction<'_>, ledger: &mut Ledger<'_>, finishes: &mut
 pub fn take_vote(
     i: usize,
     from: Partition,
-    agrees: bool,
+    ballot: Ballot,
     ledger: &mut Ledger<'_>,
     finishes: &mut [u32],
 ) -> u32
-    requires { Votable i from.number agrees ledger.old.book.now ledger.old.sums.now finishes.old }
+    requires { Votable i from.number (says_yes ballot) ledger.old.book.now ledger.old.sums.now finishes.old }
     ensures same_book { ledger.new.book.ghost_name ≡ ledger.old.book.ghost_name }
     ensures same_sums { ledger.new.sums.ghost_name ≡ ledger.old.sums.ghost_name }
-    ensures after { left (Ok result) ledger.new.book.now ledger.new.sums.now finishes.new ≡ settled_result (clock_view ledger.old.book.now) (voted_desk i from.number agrees ledger.old.book.now ledger.old.sums.now finishes.old) }
+    ensures after { left (Ok result) ledger.new.book.now ledger.new.sums.now finishes.new ≡ settled_result (clock_view ledger.old.book.now) (voted_desk i from.number (says_yes ballot) ledger.old.book.now ledger.old.sums.now finishes.old) }
 {
     let c = Clock::of(ledger.as_book());
     let tally = Tally::of(ledger.as_book());
-    joining::store_vote(ledger.book, i, from, agrees);
+    joining::store_vote(ledger.book, i, from, ballot);
     closing::settle(c, tally, ledger, finishes)
 }
 

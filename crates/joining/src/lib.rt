@@ -5,13 +5,14 @@ ghost use Rattle.std.specs.Prelude.{◌+◌, ◌*◌, ◌≤◌, ◌<◌, [], �
 ghost use Rattle.std.specs.Option.{unwrap_or};
 ghost use Rattle.rules.specs.Partitions.{with_partition};
 ghost use Rattle.laws.specs.Cuts.{put};
+ghost use Rattle.masks.specs.Ballots.{says_yes};
 ghost use Rattle.tables.specs.Layout.{book_words};
 ghost use Rattle.tables.specs.NewRow.{first_words, with_row};
 ghost use Rattle.tables.specs.Joined.{joined_book, joined_sums};
 ghost use Rattle.tables.specs.TakenOff.{off_book, off_sums};
 ghost use Rattle.tables.specs.Voted.{voted_book};
 
-use masks::Partition;
+use masks::{Ballot, Partition};
 use moves::{lay, move_within};
 use tables::{
     AMOUNTS, COUNTERS, Ledger, READ_KEYS, ROW, Transaction, WAITING_AMOUNTS, WRITTEN_KEYS,
@@ -32,7 +33,7 @@ fn lay_row(book: &mut [u32], at: usize, rt: u32, t: Transaction<'_>)
     lay(book, at + WRITTEN_KEYS, t.keys);
 }
 
-// A newcomer joins the n that wait, at place i: the rows and amounts from there on move up by one.
+// A newcomer joins the n that wait (the book's own counter is stored at the end, with the others), at place i: the rows and amounts from there on move up by one.
 #[tactic(auto, using(crate::specs::Stores::row_joined, crate::specs::Stores::sums_joined))]
 pub fn join(ledger: &mut Ledger<'_>, n: usize, i: usize, rt: u32, t: Transaction<'_>)
     requires n_bound { n < 32 }
@@ -71,7 +72,7 @@ pub fn take_off(ledger: &mut Ledger<'_>, n: usize)
     );
 }
 
-// A finish entry behind the m that are written: identity, and version or 0 for an abort.
+// A finish entry behind the m that are written: identity, and version or 0 for an abort. Two words of a list that C lends, and no struct.
 pub fn tell(finishes: &mut [u32], m: usize, identity: u32, version: Option<u32>)
     requires { 2 * m + 2 ≤ length finishes.old }
     ensures { finishes.new ≡ put finishes.old (2 * m) (identity ∷ unwrap_or version 0 ∷ []) }
@@ -98,17 +99,16 @@ fn add_voter(book: &mut [u32], at: usize, p: Partition)
 
 // "It is stored." Those who said yes stand in word 4 of the row, those who said no in word 5.
 #[tactic(auto, using(crate::specs::Stores::aye_stored, crate::specs::Stores::nay_stored))]
-pub fn store_vote(book: &mut [u32], i: usize, p: Partition, yes: bool)
+pub fn store_vote(book: &mut [u32], i: usize, p: Partition, ballot: Ballot)
     requires book_words_in_bounds { book_words ≤ length book.old }
     requires i_bound { i < 32 }
     requires ayes_byte { get_or book.old (6 + 24 * i + 4) 0 < 256 }
     requires nays_byte { get_or book.old (6 + 24 * i + 5) 0 < 256 }
-    ensures { book.new ≡ voted_book book.old i p.number yes }
+    ensures { book.new ≡ voted_book book.old i p.number (says_yes ballot) }
 {
     let row = COUNTERS + ROW * i;
-    if yes {
-        add_voter(book, row + 4, p); // the ayes
-    } else {
-        add_voter(book, row + 5, p);
+    match ballot {
+        Ballot::Yes => add_voter(book, row + 4, p), // the ayes
+        Ballot::No => add_voter(book, row + 5, p),
     }
 }

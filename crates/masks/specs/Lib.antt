@@ -3,3 +3,4 @@ pub mod Operations
 pub mod Sets
 pub mod Empty
 pub mod Votes
+pub mod Ballots

@@ -11,6 +11,13 @@ pub struct Partition {
     pub ghost below_8: { number < 8 },
 }
 
+// A vote: yes or no.
+#[derive(Clone, Copy, Debug, PartialEq, Eq)]
+pub enum Ballot {
+    Yes,
+    No,
+}
+
 // The votes on an entry, one bit a partition: who is involved, which partition is our own, who said yes and who said no.
 #[derive(Clone, Copy)]
 pub struct Votes {

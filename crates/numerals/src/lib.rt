@@ -22,7 +22,8 @@ fn first_place(s: &[u8], c: u8) -> Option<usize>
     s.iter().position(|b| *b == c)
 }
 
-// The place of the first byte c from i on, or the length where there is none: where the part that begins at i ends.
+// The place of the first byte c from i on, or the length where there is none: where the part that begins at i ends. No Option: a part ends in either case, and
+// callers are promised where.
 #[tactic(auto, using(crate::specs::Parts::found_some, crate::specs::Parts::found_none))]
 pub fn find(s: &[u8], i: usize, c: u8) -> usize
     requires { i ≤ length s.now }
@@ -46,7 +47,8 @@ fn is_well_led(s: &[u8]) -> bool
     }
 }
 
-// The digits from the left on. Each product and each sum is checked, so that none overflows whatever the limit: what doesn't fit 64 bits is over every limit.
+// The digits from the left on. By hand: the library's `parse` takes `+`, leading zeros and what is over the field's limit, which the rules refuse.
+// Each product and each sum is checked, so that none overflows whatever the limit: what doesn't fit 64 bits is over every limit.
 #[tactic(auto, using(crate::specs::Reading::reading))]
 fn digits(s: &[u8], limit: u64) -> Option<u64>
     ensures { result ≡ given (read_from limit 0 s.now) }

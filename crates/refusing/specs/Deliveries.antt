@@ -1,4 +1,4 @@
--- A delivery's numbers, 1 to 8, on the words of the tables and on what is lent: each way out of the tests, and that they are the rules'.
+-- A delivery's numbers, 1 to 8, on the words of the tables and on what is lent, and that they are the rules'.
 use Rattle.std.specs.Prelude.{ℕ, cond, ◌||◌, List, ◌≡◌, eqb, leb, ltb, ℤ, get_or}
 use Rattle.rules.specs.Sizes.{most_waiting, most_dc}
 use Rattle.rules.specs.Partitions.{bad_set}

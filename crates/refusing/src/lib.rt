@@ -17,9 +17,9 @@ ghost use Rattle.refusing.specs.Votes.{vote_words};
 mod refusals;
 
 pub use refusals::Refusal;
-use tables::{BOOK, Book, Lent, SUMS, Sums, Transaction};
+use tables::{BOOK, Book, Lent, SUMS, Sizes, Sums, Transaction};
 
-// 01, "The ledger's sizes".
+// 01, "The ledger's sizes": the limits of these checks alone, so that a wrong one shows here.
 const MOST_KEYS: usize = 8;
 
 const KEYS: u32 = 1024;
@@ -94,7 +94,7 @@ fn check_snapshot(st: u32, sc: u32) -> Result<(), Refusal>
     Ok(())
 }
 
-// The row of an identity among the first rows of the waiting list, if one has it.
+// The row of an identity among so many first rows of the waiting list, if one has it.
 pub fn row_of(book: Book<'_>, count: usize, identity: u32) -> Option<usize>
     requires { count ≤ 32 }
     ensures { result ≡ row_among identity count book.entry.words.now }
@@ -231,11 +231,11 @@ pub fn check_read(key: u32, st: Option<u32>, lent: Lent<'_>) -> Result<u32, Refu
 
 // "opening: sizes outside the table", "either: a lent table too short".
 #[tactic(auto, unfolding(crate::specs::Operands::opening_number))]
-pub fn check_opening(partitions: u32, own: u32, k: u32, lent: Lent<'_>) -> Result<(), Refusal>
-    ensures { told result ≡ opening_number partitions own k lent.entry.book.now lent.entry.sums.now }
+pub fn check_opening(sizes: Sizes, lent: Lent<'_>) -> Result<(), Refusal>
+    ensures { told result ≡ opening_number sizes.partitions sizes.own sizes.k lent.entry.book.now lent.entry.sums.now }
 {
     check_lengths(lent)?;
-    if !checking::sizes_fit(partitions, own, k) {
+    if !checking::sizes_fit(sizes) {
         return Err(Refusal::Unusable);
     }
     Ok(())

@@ -3,7 +3,7 @@ ghost use Rattle.std.specs.Prelude.{◌≤◌, ◌<◌, ◌≡◌, length, get_o
 ghost use Rattle.tables.specs.Layout.{book_words, sums_words, partitions_at, own_at, sc_at, dc_at, k_at, waiting_at};
 ghost use Rattle.tables.specs.View.{waiting_words, kept_words};
 
-use crate::{COUNTERS, KEPT_ROWS, ROW, Row, VERSIONS};
+use crate::{COUNTERS, KEPT_ROWS, ROW, Row, Sizes, VERSIONS};
 
 // Words that are long enough for every counter and row, whatever stands in them.
 #[derive(Clone, Copy)]
@@ -43,6 +43,18 @@ impl<'a> Book<'a> {
         ensures { result ≡ get_or self.entry.words.now k_at 0 }
     {
         self.words[4]
+    }
+
+    pub fn sizes(self) -> Sizes
+        ensures partitions { result.partitions ≡ get_or self.entry.words.now partitions_at 0 }
+        ensures own { result.own ≡ get_or self.entry.words.now own_at 0 }
+        ensures k { result.k ≡ get_or self.entry.words.now k_at 0 }
+    {
+        Sizes {
+            partitions: self.partitions(),
+            own: self.own(),
+            k: self.k(),
+        }
     }
 
     // How many wait.

@@ -4,6 +4,14 @@ ghost use Rattle.tables.specs.Layout.{book_words, sums_words};
 
 use crate::Book;
 
+// What an engine is opened with: so many partitions, our own one of them, and the threshold k.
+#[derive(Clone, Copy)]
+pub struct Sizes {
+    pub partitions: u32,
+    pub own: u32,
+    pub k: u32,
+}
+
 // Two tables to read, of any length and with anything in them.
 #[derive(Clone, Copy)]
 pub struct Lent<'a> {
@@ -11,7 +19,8 @@ pub struct Lent<'a> {
     pub sums: &'a [i64],
 }
 
-// Two tables to change, long enough for a state.
+// Two tables to change, long enough for a state. Whoever takes it promises that it still lends the same two (`same_book`, `same_sums`): only so do callers know what
+// became of what they lent.
 #[derive(Drop)]
 pub struct Ledger<'a> {
     pub book: &'a mut [u32],

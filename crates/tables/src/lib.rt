@@ -7,7 +7,7 @@ mod ledgers;
 mod rows;
 
 pub use books::{Book, Sums};
-pub use ledgers::{Ledger, Lent, Transaction};
+pub use ledgers::{Ledger, Lent, Sizes, Transaction};
 pub use rows::{Kept, Row, SoundRow, Waiting};
 
 pub const COUNTERS: usize = 6; // partitions, own, SC, DC, k, how many wait

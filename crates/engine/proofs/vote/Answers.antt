@@ -1,7 +1,7 @@
 -- A vote is refused by its number, or taken on the row of its identity.
 use Rattle.std.specs.Prelude.{◌≡◌, Err, refl}
 use Rattle.std.proofs.Common.{rules}
-use Rattle.engine.specs.Fates.{says_yes}
+use Rattle.masks.specs.Ballots.{says_yes}
 use Rattle.engine.specs.Public.{vote_refuses, vote_tables, vote_partition, votable_at, vote_takes_at}
 use Rattle.engine.proofs.vote.Goals as goal
 
@@ -19,8 +19,8 @@ pub invariant_of-from : goal.invariant_of-from
 invariant_of-from c = record { below_8 = vote_partition _ _ _ _ _ _ _ (c.in_ok-i.ensures.number (says_yes c.args.ballot)) refl }
 
 pub take_vote-requires : goal.take_vote-requires
-take_vote-requires c = rw c.is_yes.ensures (votable_at _ _ _ _ _ _ _ (c.in_ok-i.ensures.number (says_yes c.args.ballot)) _ c.in_ok-i.ensures.row refl)
+take_vote-requires c = votable_at _ _ _ _ _ _ _ (c.in_ok-i.ensures.number (says_yes c.args.ballot)) _ c.in_ok-i.ensures.row refl
 
 pub returns : goal.returns
 returns c =
-    vote_takes_at _ _ _ _ _ _ _ (c.in_ok-i.ensures.number (says_yes c.args.ballot)) _ c.in_ok-i.ensures.row _ refl (rw (← c.is_yes.ensures) (search rules))
+    vote_takes_at _ _ _ _ _ _ _ (c.in_ok-i.ensures.number (says_yes c.args.ballot)) _ c.in_ok-i.ensures.row _ refl (search rules)
