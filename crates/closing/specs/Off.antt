@@ -54,20 +54,20 @@ unfolding head_off off_desk kept_desk told_desk entry_words finish books_view
 off_aborted c n d q = rw (head_commits c d ∙ q, head_identity d)
 
 -- The same, of what each call left.
-pub left_committed : (c : Clock) (n : ℕ) (d : Desk) {kept_book after_book : List ℕ} {kept_sums after_sums : List ℤ} {told : List ℕ}
+pub left_committed : (c : Clock) (n : ℕ) (d : Desk) {identity : ℕ} {kept_book after_book : List ℕ} {kept_sums after_sums : List ℤ} {told : List ℕ}
     → row_commits c.own (waiting_words d.book 0) ≡ true
-    → told ≡ put d.finishes (2 * d.finished) (get_or (waiting_words d.book 0) 0 0 ∷ (d.sc + 1) ∷ [])
+    → identity ≡ get_or (waiting_words d.book 0) 0 0 → told ≡ put d.finishes (2 * d.finished) (identity ∷ (d.sc + 1) ∷ [])
     → kept_book ≡ committed_book d.book d.sc → kept_sums ≡ committed_sums d.book d.sums d.sc
     → after_book ≡ off_book kept_book n → after_sums ≡ off_sums kept_sums n
     → ◌≡◌ {A = Desk} (record { sc = d.sc + 1; waiting = n; finished = d.finished + 1; book = after_book; sums = after_sums; finishes = told }) (head_off c n d)
-left_committed c n d q told kept kept_sums off off_sums = rw (told, off, off_sums, kept, kept_sums) (off_committed c n d q)
+left_committed c n d q its told kept kept_sums off off_sums = rw (told, its, off, off_sums, kept, kept_sums) (off_committed c n d q)
 
-pub left_aborted : (c : Clock) (n : ℕ) (d : Desk) {after_book : List ℕ} {after_sums : List ℤ} {told : List ℕ}
+pub left_aborted : (c : Clock) (n : ℕ) (d : Desk) {identity : ℕ} {after_book : List ℕ} {after_sums : List ℤ} {told : List ℕ}
     → row_commits c.own (waiting_words d.book 0) ≡ false
-    → told ≡ put d.finishes (2 * d.finished) (get_or (waiting_words d.book 0) 0 0 ∷ 0 ∷ [])
+    → identity ≡ get_or (waiting_words d.book 0) 0 0 → told ≡ put d.finishes (2 * d.finished) (identity ∷ 0 ∷ [])
     → after_book ≡ off_book d.book n → after_sums ≡ off_sums d.sums n
     → ◌≡◌ {A = Desk} (record { sc = d.sc; waiting = n; finished = d.finished + 1; book = after_book; sums = after_sums; finishes = told }) (head_off c n d)
-left_aborted c n d q told off off_sums = rw (told, off, off_sums) (off_aborted c n d q)
+left_aborted c n d q its told off off_sums = rw (told, its, off, off_sums) (off_aborted c n d q)
 
 -- Closing, one way out after the other.
 pub closed_none : (c : Clock) (d : Desk) → d.waiting ≡ 0 → d ≡ closed_desk c d

@@ -21,11 +21,11 @@ keep-requires-clause-sc_bound c = omega (arith, (fit_numbers _ _ c.requires.fit)
 pub returns-then-is_commit-clause-after : goal.returns-then-is_commit-clause-after
 returns-then-is_commit-clause-after c =
     let commits = rw (c.waiting_row.ensures, c.as_book.ensures) at (sym c.is_commit.ensures ∙ c.if-is_commit.true) in
-    let told = rw (c.identity-identity.ensures, c.waiting_row.ensures, c.as_book.ensures) at c.tell.ensures in
-    left_committed _ _ _ commits told c.keep.ensures.book_after c.keep.ensures.sums_after c.take_off.ensures.book_after c.take_off.ensures.sums_after
+    let its = rw (c.waiting_row.ensures, c.as_book.ensures) at c.identity-identity.ensures in
+    left_committed _ _ _ commits its c.tell.ensures c.keep.ensures.book_after c.keep.ensures.sums_after c.take_off.ensures.book_after c.take_off.ensures.sums_after
 
 pub returns-clause-after : goal.returns-clause-after
 returns-clause-after c =
     let commits = rw (c.waiting_row.ensures, c.as_book.ensures) at (sym c.is_commit.ensures ∙ c.if-is_commit.false) in
-    let told = rw (c.identity-identity.ensures, c.waiting_row.ensures, c.as_book.ensures) at c.tell-2.ensures in
-    left_aborted _ _ _ commits told c.take_off-2.ensures.book_after c.take_off-2.ensures.sums_after
+    let its = rw (c.waiting_row.ensures, c.as_book.ensures) at c.identity-identity.ensures in
+    left_aborted _ _ _ commits its c.tell-2.ensures c.take_off-2.ensures.book_after c.take_off-2.ensures.sums_after
