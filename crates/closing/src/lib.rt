@@ -62,6 +62,7 @@ impl Tally {
 }
 
 // The head goes: it commits or aborts, and its finish is told.
+#[tactic(auto, using(crate::specs::Off::left_committed, crate::specs::Off::left_aborted))]
 fn take_head(c: Clock, t: Tally, ledger: &mut Ledger<'_>, finishes: &mut [u32]) -> Tally
     requires fit { Fit (clock_of c) (desk_of t ledger.old.book.now ledger.old.sums.now finishes.old) }
     requires some_wait { t.waiting ≡ 0 → ⊥ }
@@ -97,6 +98,7 @@ fn take_head(c: Clock, t: Tally, ledger: &mut Ledger<'_>, finishes: &mut [u32]) 
 }
 
 // "while the head of the list is ready it is taken off, and the next head is looked at": closing calls itself on the list without its head.
+#[tactic(auto, using(crate::specs::Off::closed_none, crate::specs::Off::closed_rest, crate::specs::Off::closed_more))]
 pub fn close(c: Clock, t: Tally, ledger: &mut Ledger<'_>, finishes: &mut [u32]) -> Tally
     requires { Fit (clock_of c) (desk_of t ledger.old.book.now ledger.old.sums.now finishes.old) }
     ensures same_book { ledger.new.book.ghost_name ≡ ledger.old.book.ghost_name }
