@@ -61,7 +61,7 @@ impl Tally {
     }
 }
 
-// The head goes: it commits or aborts, and its finish is told.
+// The head goes: it commits or aborts, and its finish is told. What closing works on is no struct: with a ledger nested in one, what callers lent is lost to their proofs.
 #[tactic(auto, using(crate::specs::Off::left_committed, crate::specs::Off::left_aborted))]
 fn take_head(c: Clock, t: Tally, ledger: &mut Ledger<'_>, finishes: &mut [u32]) -> Tally
     requires fit { Fit (clock_of c) (desk_of t ledger.old.book.now ledger.old.sums.now finishes.old) }

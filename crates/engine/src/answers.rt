@@ -14,6 +14,7 @@ pub enum Reason {
 }
 
 impl Reason {
+    // As `Refusal::number`: a line of each enum's own is plainer than a trait over both.
     pub fn number(self) -> u32
         ensures { result ≡ reason_number self }
     {

@@ -12,7 +12,7 @@ ghost use Rattle.engine.specs.Judging.{Judgeable};
 use crate::Reason;
 use certifying::Newcomer;
 use masks::Partition;
-use tables::{Book, Kept, Waiting};
+use tables::{Book, Kept, Transaction, Waiting};
 
 // "A local one takes the smallest place i [..] If none exists: aborted, reason 3."
 fn place_local(
@@ -30,12 +30,11 @@ fn place_local(
 pub fn judge(
     book: Book<'_>,
     dc: u32,
-    set: u32,
-    st: u32,
+    t: Transaction<'_>,
     newcomer: Newcomer<'_>,
 ) -> Result<usize, Reason>
-    requires { Judgeable (get_or book.words.now 1 0) (get_or book.words.now 2 0) (get_or book.words.now 5 0) st book.words.now }
-    ensures { result ≡ fate_of (row_fate (get_or book.entry.words.now 1 0) dc (get_or book.entry.words.now 2 0) (get_or book.entry.words.now 5 0) set st newcomer.entry.reads.list.now newcomer.entry.keys.list.now book.entry.words.now) }
+    requires { Judgeable (get_or book.words.now 1 0) (get_or book.words.now 2 0) (get_or book.words.now 5 0) t.st book.words.now }
+    ensures { result ≡ fate_of (row_fate (get_or book.entry.words.now 1 0) dc (get_or book.entry.words.now 2 0) (get_or book.entry.words.now 5 0) t.entry.set t.entry.st newcomer.entry.reads.list.now newcomer.entry.keys.list.now book.entry.words.now) }
 {
     let own = Partition { number: book.own() };
     let kept = Kept {
@@ -46,8 +45,8 @@ pub fn judge(
         book,
         count: book.waiting() as usize,
     };
-    let local = masks::is_local(set, own);
-    if certifying::clashes_with_commits(kept, st, newcomer, !local) {
+    let local = masks::is_local(t.set, own);
+    if certifying::clashes_with_commits(kept, t.st, newcomer, !local) {
         return Err(Reason::Commit);
     }
     if local {

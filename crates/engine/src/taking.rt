@@ -75,7 +75,7 @@ pub fn take_delivery(t: Transaction<'_>, ledger: &mut Ledger<'_>, finishes: &mut
         reads: Keys { list: t.reads },
         keys: Keys { list: t.keys },
     };
-    match judging::judge(book, c.dc, t.set, t.st, newcomer) {
+    match judging::judge(book, c.dc, t, newcomer) {
         Err(reason) => settle_delivery(c, tally, t.set, Err(reason), ledger, finishes),
         Ok(i) => {
             joining::join(ledger, tally.waiting as usize, i, c.dc + c.k, t);
@@ -88,7 +88,7 @@ pub fn take_delivery(t: Transaction<'_>, ledger: &mut Ledger<'_>, finishes: &mut
     }
 }
 
-// A vote that nothing refuses, on the entry of row i: how many finishes were written.
+// A vote that nothing refuses, on the entry of row i: how many finishes were written. What it is given goes together nowhere else.
 pub fn take_vote(
     i: usize,
     from: Partition,

@@ -80,7 +80,7 @@ pub fn tell(finishes: &mut [u32], m: usize, identity: u32, version: Option<u32>)
     lay(finishes, 2 * m, &[identity, version.unwrap_or(0)]);
 }
 
-// The counters that an event changes: SC, DC, k, and how many wait.
+// The counters that an event changes: SC, DC, k, and how many wait; they go together nowhere else.
 pub fn store_counters(book: &mut [u32], sc: u32, dc: u32, k: u32, waiting: u32)
     requires { book_words ≤ length book.old }
     ensures { book.new ≡ put book.old 2 (sc ∷ dc ∷ k ∷ waiting ∷ []) }

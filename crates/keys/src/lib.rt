@@ -7,7 +7,7 @@ ghost use Rattle.laws.specs.Options.{given};
 
 use std::cmp::Ordering;
 
-// 01, "The ledger's sizes": keys are 0 to 1,023.
+// 01, "The ledger's sizes": keys are 0 to 1,023. The limit of this check alone, so that a wrong one shows here.
 const KEYS: u32 = 1024;
 
 // "strictly ascending": each key is below the one after it.

@@ -123,7 +123,7 @@ pub fn write_byte(out: &mut [u8], at: usize, b: u8) -> usize
     at + 1
 }
 
-// A digit's byte.
+// A digit's byte, for the writers, which write bytes and no text.
 fn digit(d: u64) -> u8
     requires { d < 10 }
     ensures { result ≡ 48 + d }

@@ -83,7 +83,7 @@ impl<'a> SoundRow<'a> {
         }
     }
 
-    // The keys that it writes.
+    // The keys that it writes: a function of its own beside `reads`, since one of both places would need to be told which, and promise both.
     #[tactic(auto, using(crate::specs::Good::keys_taken, crate::specs::Good::keys_of_row_ascend))]
     pub fn keys(self) -> Keys<'a>
         ensures { result.list.now ≡ row_keys self.entry.row.words.now }
