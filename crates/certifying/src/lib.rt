@@ -32,11 +32,11 @@ impl Newcomer<'_> {
 
     // "it read a key that the commit wrote; for a global one also, it writes a key that the commit read". Global or not is a flag: a local newcomer only
     // skips the second half of this one test, and two functions would be twins.
-    #[tactic(auto, unfolding(tables::specs::Tested::row_clash))]
+    #[tactic(auto, unfolding(tables::specs::Tested::row_clash, tables::specs::Tested::row_blocks))]
     fn clashes_with(self, row: SoundRow<'_>, global: bool) -> bool
         ensures { result ≡ row_clash global self.entry.reads.list.now self.entry.keys.list.now row.entry.row.words.now }
     {
-        self.reads.meets(row.keys()) || global && self.keys.meets(row.reads())
+        self.is_blocked_by(row) || global && self.keys.meets(row.reads())
     }
 
     // "is global, has DC <= rt, and has read no key that it writes": the row may be passed.
@@ -48,7 +48,7 @@ impl Newcomer<'_> {
     }
 }
 
-// The newcomer clashes with a commit "of version st+1 to SC"; the newest is tested first.
+// The newcomer clashes with a commit "of version st+1 to SC"; the newest is tested first. (`global` as in `clashes_with`, here and below.)
 pub fn clashes_with_commits(kept: Kept<'_>, st: u32, newcomer: Newcomer<'_>, global: bool) -> bool
     requires st_le_sc { st ≤ kept.sc }
     requires sc_bound { kept.sc ≤ st + 64 }

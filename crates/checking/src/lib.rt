@@ -93,7 +93,7 @@ fn is_entry_good(row: Row<'_>, opened: Opened) -> bool
         && row.rt() <= opened.dc + MOST_K
 }
 
-// So many rows of the waiting list, whatever stands in them.
+// So many rows of the waiting list, whatever stands in them: tables' `Waiting` before it is known to be good. Nested in that one it would make each use a step longer.
 #[derive(Clone, Copy)]
 struct AnyRows<'a> {
     book: Book<'a>,

@@ -6,6 +6,7 @@ mod head;
 ghost use Rattle.std.specs.Prelude.{◌-◌, ◌≡◌, get_or};
 ghost use Rattle.tables.specs.Closed.{Desk, Fit, head_off};
 ghost use Rattle.tables.specs.Settled.{Ready, closed_desk, settled_book};
+ghost use Rattle.tables.specs.Layout.{sc_at, waiting_at};
 ghost use Rattle.tables.specs.View.{clock_view};
 ghost use Rattle.closing.specs.Desks.{clock_of, desk_of};
 
@@ -49,8 +50,8 @@ pub struct Tally {
 impl Tally {
     // The tally that a book holds: nothing is finished yet.
     pub fn of(book: Book<'_>) -> Tally
-        ensures sc { result.sc ≡ get_or book.entry.words.now 2 0 }
-        ensures waiting { result.waiting ≡ get_or book.entry.words.now 5 0 }
+        ensures sc { result.sc ≡ get_or book.entry.words.now sc_at 0 }
+        ensures waiting { result.waiting ≡ get_or book.entry.words.now waiting_at 0 }
         ensures none_finished { result.finished ≡ 0 }
     {
         Tally {
@@ -61,7 +62,8 @@ impl Tally {
     }
 }
 
-// The head goes: it commits or aborts, and its finish is told. What closing works on is no struct: with a ledger nested in one, what callers lent is lost to their proofs.
+// The head goes: it commits or aborts, and its finish is told. What closing works on is no struct of four, here
+// and below: nested in one, a ledger is lost to the proofs of those who lent it; and opening and reading have no finish list that a ledger could hold.
 #[tactic(auto, using(crate::specs::Off::left_committed, crate::specs::Off::left_aborted))]
 fn take_head(c: Clock, t: Tally, ledger: &mut Ledger<'_>, finishes: &mut [u32]) -> Tally
     requires fit { Fit (clock_of c) (desk_of t ledger.old.book.now ledger.old.sums.now finishes.old) }

@@ -3,6 +3,7 @@ ghost use Rattle.std.specs.Prelude.{◌≡◌, get_or};
 ghost use Rattle.rules.specs.Place.{place};
 ghost use Rattle.rules.specs.Delivery.{placed};
 ghost use Rattle.laws.specs.Tabs.{tab};
+ghost use Rattle.tables.specs.Layout.{own_at, sc_at, waiting_at};
 ghost use Rattle.tables.specs.View.{waiting_words};
 ghost use Rattle.tables.specs.Tested.{row_blocks, row_passes};
 ghost use Rattle.tables.specs.Judged.{row_fate};
@@ -33,8 +34,8 @@ pub fn judge(
     t: Transaction<'_>,
     newcomer: Newcomer<'_>,
 ) -> Result<usize, Reason>
-    requires { Judgeable (get_or book.words.now 1 0) (get_or book.words.now 2 0) (get_or book.words.now 5 0) t.st book.words.now }
-    ensures { result ≡ fate_of (row_fate (get_or book.entry.words.now 1 0) dc (get_or book.entry.words.now 2 0) (get_or book.entry.words.now 5 0) t.entry.set t.entry.st newcomer.entry.reads.list.now newcomer.entry.keys.list.now book.entry.words.now) }
+    requires { Judgeable (get_or book.words.now own_at 0) (get_or book.words.now sc_at 0) (get_or book.words.now waiting_at 0) t.st book.words.now }
+    ensures { result ≡ fate_of (row_fate (get_or book.entry.words.now own_at 0) dc (get_or book.entry.words.now sc_at 0) (get_or book.entry.words.now waiting_at 0) t.entry.set t.entry.st newcomer.entry.reads.list.now newcomer.entry.keys.list.now book.entry.words.now) }
 {
     let own = Partition { number: book.own() };
     let kept = Kept {

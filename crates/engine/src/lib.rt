@@ -1,5 +1,6 @@
 // The public operations on lent tables. None has a `requires`: any table, any number, any state gets an answer, and a refusal leaves every lent
-// byte as it was. The tables come as slices, as C lends them too, of any length.
+// byte as it was. The tables come as slices, as C lends them too, of any length; a struct of
+// `&mut` would be taken apart again, or lost to the proofs (see `Ledger`).
 #![tactic(auto)]
 
 mod answers;

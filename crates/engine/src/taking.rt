@@ -19,20 +19,20 @@ use keys::Keys;
 use masks::{Ballot, Partition};
 use tables::{Ledger, Transaction};
 
-// The vote to send: none for a local transaction, else yes where it joins (the plain answer of a test, and so a bool).
-fn vote_for(set: u32, own: Partition, joins: bool) -> Option<Ballot>
-    ensures { result ≡ send_if (eqb set (only own.number)) joins }
+// The vote to send: none for a local transaction, else yes where it joins.
+fn vote_for(set: u32, own: Partition, fate: Result<u32, Reason>) -> Option<Ballot>
+    ensures { result ≡ send_if (eqb set (only own.number)) (is_ok fate) }
 {
     if masks::is_local(set, own) {
         return None;
     }
-    if joins {
-        return Some(Ballot::Yes);
+    match fate {
+        Ok(_) => Some(Ballot::Yes),
+        Err(_) => Some(Ballot::No),
     }
-    Some(Ballot::No)
 }
 
-// A delivery whose fate is known: closing. What it is given goes together nowhere else.
+// A delivery whose fate is known: closing. Clock, tally, ledger and list are closing's own four (see there); set and fate go with them nowhere else.
 fn settle_delivery(
     c: Clock,
     t: Tally,
@@ -47,7 +47,7 @@ fn settle_delivery(
     ensures after { left (Ok result) ledger.new.book.now ledger.new.sums.now finishes.new ≡ delivered_result (clock_of c) set fate (desk_of t ledger.old.book.now ledger.old.sums.now finishes.old) }
 {
     let own = Partition { number: c.own };
-    let send = vote_for(set, own, fate.is_ok());
+    let send = vote_for(set, own, fate);
     let told = closing::settle(c, t, ledger, finishes);
     Delivered {
         dc: c.dc,
@@ -88,7 +88,7 @@ pub fn take_delivery(t: Transaction<'_>, ledger: &mut Ledger<'_>, finishes: &mut
     }
 }
 
-// A vote that nothing refuses, on the entry of row i: how many finishes were written. What it is given goes together nowhere else.
+// A vote that nothing refuses, on the entry of row i: how many finishes were written. Row, partition and ballot are handed on as they came.
 pub fn take_vote(
     i: usize,
     from: Partition,

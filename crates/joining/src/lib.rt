@@ -33,7 +33,7 @@ fn lay_row(book: &mut [u32], at: usize, rt: u32, t: Transaction<'_>)
     lay(book, at + WRITTEN_KEYS, t.keys);
 }
 
-// A newcomer joins the n that wait (the book's own counter is stored at the end, with the others), at place i: the rows and amounts from there on move up by one.
+// A newcomer joins the n that wait (the book's own counter is stored at the end, with the others), at place i (they meet nowhere else): the rows and amounts from there on move up by one.
 #[tactic(auto, using(crate::specs::Stores::row_joined, crate::specs::Stores::sums_joined))]
 pub fn join(ledger: &mut Ledger<'_>, n: usize, i: usize, rt: u32, t: Transaction<'_>)
     requires n_bound { n < 32 }
@@ -54,7 +54,7 @@ pub fn join(ledger: &mut Ledger<'_>, n: usize, i: usize, rt: u32, t: Transaction
     lay(ledger.sums, amounts, t.amounts);
 }
 
-// The head goes, and the n rows behind it move down by one.
+// The head goes, and the n rows behind it move down by one; the book's own counter is stored at the end, with the others.
 #[tactic(auto, unfolding(tables::specs::TakenOff::off_book, tables::specs::TakenOff::off_sums))]
 pub fn take_off(ledger: &mut Ledger<'_>, n: usize)
     requires n_bound { n < 32 }

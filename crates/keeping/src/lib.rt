@@ -31,7 +31,7 @@ fn fold_oldest(kept: Kept<'_>, sums: &mut [i64])
     let version = kept.sc - VERSIONS + 1;
     let keys = kept.row(version).keys().list;
     let amounts = KEPT_AMOUNTS + AMOUNTS * slot(version);
-    // by place: the amounts stand in the table that is written, so they can't be lent to a chain
+    // by place: it names the key in one table and the amount in the other, which is written meanwhile
     for j in (0..keys.len()).rev() {
         sums[keys[j] as usize] = sums[amounts + j];
     }
@@ -100,7 +100,7 @@ pub fn read_at(kept: Kept<'_>, sums: Sums<'_>, key: u32, st: u32) -> i64
     ensures { result ≡ read_at key st (books_view kept.entry.sc kept.entry.book.words.now sums.entry.amounts.now) }
 {
     let floor = kept.sc.saturating_sub(VERSIONS);
-    // a `find_map` over the versions was tried: what it gives has no short proof
+    // a `find_map` over the versions was tried, and the proof of what it returns did not close
     for version in (floor + 1..=st).rev() {
         if let Some(value) = value_put(kept, sums, version, key) {
             return value;

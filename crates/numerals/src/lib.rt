@@ -47,8 +47,8 @@ fn is_well_led(s: &[u8]) -> bool
     }
 }
 
-// The digits from the left on. By hand: the library's `parse` takes `+`, leading zeros and what is over the field's limit, which the rules refuse.
-// Each product and each sum is checked, so that none overflows whatever the limit: what doesn't fit 64 bits is over every limit.
+// The digits from the left on. By hand: the library's `parse` reads text and takes a `+`, and the tests for leading zeros and for
+// the field's limit would stand beside it all the same. Each product and each sum is checked, so that none overflows whatever the limit: what doesn't fit 64 bits is over every limit.
 #[tactic(auto, using(crate::specs::Reading::reading))]
 fn digits(s: &[u8], limit: u64) -> Option<u64>
     ensures { result ≡ given (read_from limit 0 s.now) }

@@ -94,7 +94,7 @@ fn check_snapshot(st: u32, sc: u32) -> Result<(), Refusal>
     Ok(())
 }
 
-// The row of an identity among so many first rows of the waiting list, if one has it.
+// The row of an identity among so many first rows of the waiting list, if one has it: of any count, as it was always promised.
 pub fn row_of(book: Book<'_>, count: usize, identity: u32) -> Option<usize>
     requires { count ≤ 32 }
     ensures { result ≡ row_among identity count book.entry.words.now }

@@ -4,5 +4,5 @@ use Rattle.engine.proofs.taking.settle_delivery.Goals as goal
 
 pub returns-clause-after : goal.returns-clause-after
 returns-clause-after c =
-    fate_settled _ _ _ _ (rw c.is_ok.ensures.value at c.vote_for-send.ensures) c.settle-told.ensures.value c.settle-told.ensures.book_after c.settle-told.ensures.sums_after
+    fate_settled _ _ _ _ c.vote_for-send.ensures c.settle-told.ensures.value c.settle-told.ensures.book_after c.settle-told.ensures.sums_after
     c.settle-told.ensures.finishes_after
