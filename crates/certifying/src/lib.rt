@@ -72,7 +72,7 @@ fn is_blocked(waiting: Waiting<'_>, n: usize, newcomer: Newcomer<'_>) -> bool
     (0..n).any(|i| newcomer.is_blocked_by(waiting.row(i)))
 }
 
-// The walk back from the end of the list: the first place such that every entry from there on may be passed.
+// Of the same four as the question itself (who waits, our own, DC, the newcomer), the walk back from the end of the list: the first place such that every entry from there on may be passed.
 fn reach(waiting: Waiting<'_>, own: Partition, dc: u32, newcomer: Newcomer<'_>) -> usize
     ensures { Reached (row_passes own.number dc newcomer.entry.keys.list.now) (tab waiting.entry.count (waiting_words waiting.entry.book.words.now)) result }
 {

@@ -15,7 +15,7 @@ use tables::{
     WAITING_AMOUNTS,
 };
 
-// Which of the 64 kept rows a version has.
+// Which of the 64 kept rows a version has: asked for its amounts, as `Book::kept_row` gives the row itself.
 fn slot(version: u32) -> usize
     ensures { result ≡ version % 64 }
 {
@@ -79,7 +79,7 @@ fn find(keys: &[u32], key: u32) -> Option<usize>
     keys.iter().position(|written| key == *written)
 }
 
-// What a version put at a key, if it wrote it.
+// What a version put at a key, if it wrote it. Rows and amounts come side by side: the amounts are read here, and written where a commit is folded in.
 #[tactic(auto, using(crate::specs::Places::put_nothing, crate::specs::Places::put_value))]
 fn value_put(kept: Kept<'_>, sums: Sums<'_>, version: u32, key: u32) -> Option<i64>
     requires from_first { 1 ≤ version }

@@ -15,7 +15,7 @@ const LARGEST: u64 = i64::MAX as u64;
 
 const LEAST: u64 = i64::MAX as u64 + 1;
 
-// The place of the first c, if there is one.
+// The place of the first c, if there is one: the library's `position`, and by itself what `find` goes by.
 fn first_place(s: &[u8], c: u8) -> Option<usize>
     ensures { result ≡ position (λ b. b == c) s.now }
 {

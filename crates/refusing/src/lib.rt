@@ -68,7 +68,8 @@ fn check_tables(lent: Lent<'_>) -> Result<Usable<'_>, Refusal>
     Ok(Usable { book })
 }
 
-// "Then come 15 and 13, in that order": too little room is refused whatever the tables hold.
+// "Then come 15 and 13, in that order": too little room is refused whatever the tables hold. The words of the finish list come beside the tables, since a read and an
+// opening lend no such list.
 #[tactic(auto, unfolding(crate::specs::Lending::lending_number))]
 fn check_lending(lent: Lent<'_>, words: usize) -> Result<Usable<'_>, Refusal>
     ensures number { told result ≡ lending_number lent.entry.book.now lent.entry.sums.now words }

@@ -12,6 +12,7 @@ pub struct Book<'a> {
     pub ghost long: { book_words ≤ length words.now },
 }
 
+// The counters by their names: a function for each, since a name says more than a place.
 impl<'a> Book<'a> {
     // How many partitions were opened.
     pub fn partitions(self) -> u32

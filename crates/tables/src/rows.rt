@@ -15,6 +15,7 @@ pub struct Row<'a> {
     pub ghost whole: { length words.now ≡ 24 },
 }
 
+// The words by their names: a function for each, since a name says more than a place.
 impl Row<'_> {
     pub fn identity(self) -> u32
         ensures { result ≡ get_or self.entry.words.now 0 0 }
