@@ -83,54 +83,35 @@ fn report(rt: &impl Print, book: Book<'_>) -> io::Result<()> {
     Ok(())
 }
 
-// A newcomer that reads one key and writes one.
-#[derive(Clone, Copy, Debug)]
-struct Touches {
-    reads: u32,
-    writes: u32,
-}
-
+// A newcomer that reads one key and writes one, with its snapshot: its place, and whom it clashes with.
 #[tactic(auto, using(crate::specs::Settling::one_ascends))]
-fn place(rt: &impl Print, checked: Checked<'_>, touches: Touches) -> io::Result<()> {
+fn newcomer(rt: &impl Print, checked: Checked<'_>, of: (u32, u32, u32)) -> io::Result<()> {
+    let (read, written, st) = of;
     let newcomer = Newcomer {
-        reads: Keys {
-            list: &[touches.reads],
-        },
-        keys: Keys {
-            list: &[touches.writes],
-        },
-    };
-    println!(rt; "{:?}: place {:?}", touches, checked.place(newcomer))?;
-    println!(rt;
-        "  with those that wait: {:?}",
-        checked.clashes_with_waiting(newcomer)
-    )
-}
-
-#[tactic(auto, using(crate::specs::Settling::one_ascends))]
-fn commits(rt: &impl Print, checked: Checked<'_>, touches: Touches, st: u32) -> io::Result<()> {
-    let newcomer = Newcomer {
-        reads: Keys {
-            list: &[touches.reads],
-        },
-        keys: Keys {
-            list: &[touches.writes],
-        },
+        reads: Keys { list: &[read] },
+        keys: Keys { list: &[written] },
     };
     println!(rt;
-        "{:?}, with commits since {}: {:?}",
-        touches,
+        "reads {}, writes {}, st {}: place {:?}",
+        read,
+        written,
         st,
+        checked.place(newcomer)
+    )?;
+    println!(rt;
+        "  clashes with those that wait: {:?}, with commits: {:?}",
+        checked.clashes_with_waiting(newcomer),
         checked.clashes_with_commits(st, newcomer)
     )
 }
 
-fn value(rt: &impl Print, checked: Checked<'_>, key: u32, st: u32) -> io::Result<()> {
-    println!(rt; "key {} at {}: {:?}", key, st, checked.read(key, st))
-}
-
-// Tables that hold a sound state, where they do.
-fn judged(rt: &impl Print, ledger: &mut Ledger<'_>) -> io::Result<()>
+// What stands on the tables, where they hold a sound state: each newcomer judged, and each key read at a version.
+fn look(
+    rt: &impl Print,
+    ledger: &mut Ledger<'_>,
+    newcomers: &[(u32, u32, u32)],
+    reads: &[(u32, u32)],
+) -> io::Result<()>
     ensures same_book { ledger.new.book.ghost_name ≡ ledger.old.book.ghost_name }
     ensures same_sums { ledger.new.sums.ghost_name ≡ ledger.old.sums.ghost_name }
 {
@@ -139,127 +120,14 @@ fn judged(rt: &impl Print, ledger: &mut Ledger<'_>) -> io::Result<()>
     let Some(checked) = checked::check(words, amounts) else {
         return println!(rt; "not sound");
     };
-    place(
-        rt,
-        checked,
-        Touches {
-            reads: 2,
-            writes: 3,
-        },
-    )?;
-    place(
-        rt,
-        checked,
-        Touches {
-            reads: 6,
-            writes: 3,
-        },
-    )?;
-    place(
-        rt,
-        checked,
-        Touches {
-            reads: 6,
-            writes: 11,
-        },
-    )?;
-    place(
-        rt,
-        checked,
-        Touches {
-            reads: 1,
-            writes: 11,
-        },
-    )?;
-    place(
-        rt,
-        checked,
-        Touches {
-            reads: 1,
-            writes: 5,
-        },
-    )?;
-    place(
-        rt,
-        checked,
-        Touches {
-            reads: 9,
-            writes: 40,
-        },
-    )
-}
-
-fn looked_back(rt: &impl Print, ledger: &mut Ledger<'_>) -> io::Result<()>
-    ensures same_book { ledger.new.book.ghost_name ≡ ledger.old.book.ghost_name }
-    ensures same_sums { ledger.new.sums.ghost_name ≡ ledger.old.sums.ghost_name }
-{
-    let words = &mut *ledger.book;
-    let amounts = &mut *ledger.sums;
-    let Some(checked) = checked::check(words, amounts) else {
-        return println!(rt; "not sound");
-    };
-    commits(
-        rt,
-        checked,
-        Touches {
-            reads: 9,
-            writes: 40,
-        },
-        0,
-    )?;
-    commits(
-        rt,
-        checked,
-        Touches {
-            reads: 9,
-            writes: 40,
-        },
-        1,
-    )?;
-    commits(
-        rt,
-        checked,
-        Touches {
-            reads: 8,
-            writes: 5,
-        },
-        1,
-    )?;
-    commits(
-        rt,
-        checked,
-        Touches {
-            reads: 8,
-            writes: 5,
-        },
-        3,
-    )?;
-    value(rt, checked, 2, 0)?;
-    value(rt, checked, 2, 1)?;
-    value(rt, checked, 9, 2)?;
-    value(rt, checked, 6, 1)?;
-    value(rt, checked, 6, 2)?;
-    value(rt, checked, 6, 3)?;
-    value(rt, checked, 1024, 2)
-}
-
-// Beyond 64 commits the oldest are folded into the values.
-fn folded(rt: &impl Print, ledger: &mut Ledger<'_>) -> io::Result<()>
-    ensures same_book { ledger.new.book.ghost_name ≡ ledger.old.book.ghost_name }
-    ensures same_sums { ledger.new.sums.ghost_name ≡ ledger.old.sums.ghost_name }
-{
-    let words = &mut *ledger.book;
-    let amounts = &mut *ledger.sums;
-    let Some(checked) = checked::check(words, amounts) else {
-        return println!(rt; "not sound");
-    };
-    value(rt, checked, 2, 3)?;
-    value(rt, checked, 9, 3)?;
-    value(rt, checked, 6, 3)?;
-    value(rt, checked, 1, 2)?;
-    value(rt, checked, 1, 3)?;
-    value(rt, checked, 1, 4)?;
-    value(rt, checked, 1, 67)
+    for of in newcomers {
+        newcomer(rt, checked, *of)?;
+    }
+    for read in reads {
+        let (key, st) = *read;
+        println!(rt; "key {} at {}: {:?}", key, st, checked.read(key, st))?;
+    }
+    Ok(())
 }
 
 // Closing, and the first three entries of the finish list.
@@ -395,14 +263,37 @@ fn main(rt: HostRuntime) -> io::Result<()> {
         book: &mut book,
         sums: &mut sums,
     };
-    judged(&rt, &mut ledger)?;
+    look(&rt, &mut ledger, &[], &[])?;
     opened(&rt, &mut ledger)?;
-    judged(&rt, &mut ledger)?;
+    look(
+        &rt,
+        &mut ledger,
+        &[
+            (2, 3, 0),
+            (6, 3, 0),
+            (6, 11, 0),
+            (1, 11, 0),
+            (1, 5, 0),
+            (9, 40, 0),
+        ],
+        &[],
+    )?;
     two_commit(&rt, &mut ledger, &mut finishes)?;
-    looked_back(&rt, &mut ledger)?;
+    look(
+        &rt,
+        &mut ledger,
+        &[(9, 40, 0), (9, 40, 1), (8, 5, 1), (8, 5, 3)],
+        &[(2, 0), (2, 1), (9, 2), (6, 1), (6, 2), (6, 3), (1024, 2)],
+    )?;
     one_aborts(&rt, &mut ledger, &mut finishes)?;
     many_commit(&rt, &mut ledger, &mut finishes)?;
-    folded(&rt, &mut ledger)?;
+    // beyond 64 commits the oldest are folded into the values
+    look(
+        &rt,
+        &mut ledger,
+        &[],
+        &[(2, 3), (9, 3), (6, 3), (1, 2), (1, 3), (1, 4), (1, 67)],
+    )?;
     println!(rt;
         "behind the tables: {} {}, {} {}",
         book[BOOK],
