@@ -21,7 +21,7 @@ bad_key x = leb keys x
 abbrev pub too_many : List ℕ → Bool
 too_many xs = ltb most_keys (length xs)
 
--- "a key over 1,023; keys not strictly ascending"
+-- "a key over 1,023; [..] keys not strictly ascending"
 unfoldable pub bad_keys : List ℕ → Bool
 bad_keys xs = any bad_key xs || not (ascending xs)
 

@@ -65,6 +65,7 @@ heard_from h p = names h.ayes p || names h.nays p
 unfoldable pub outstanding : ℕ → ℕ → Heard → ℕ → Bool
 outstanding own set h p = other own set p && not (heard_from h p)
 
+-- "no vote is outstanding" where this is false
 unfoldable pub any_outstanding : ℕ → ℕ → Heard → Bool
 any_outstanding own set h = any (outstanding own set h) every_partition
 

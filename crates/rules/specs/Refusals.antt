@@ -22,6 +22,7 @@ first_of (c ∷ cs) = cond c.holds (some c.number) (first_of cs)
 abbrev pub is_for : ℕ → Entry → Bool
 is_for i e = eqb e.transaction.identity i
 
+-- "an identity now waiting"
 abbrev pub waits_for : ℕ → State → Bool
 waits_for i s = any (is_for i) s.waiting
 
@@ -31,7 +32,7 @@ delivery_checks t s =
     record { number = 1; holds = bad_set s.clock.partitions s.clock.own t.partitions }
     -- "more than 8 keys read or more than 8 written"
     ∷ record { number = 2; holds = too_many t.reads || too_many (keys_of t.writes) }
-    -- "a key over 1,023; keys not strictly ascending"
+    -- "a key over 1,023; [..] keys not strictly ascending"
     ∷ record { number = 3; holds = bad_keys t.reads || bad_keys (keys_of t.writes) }
     -- "identity 0, or an identity now waiting"
     ∷ record { number = 4; holds = eqb t.identity 0 || waits_for t.identity s }
@@ -71,12 +72,14 @@ read_checks key st s =
     ∷ record { number = 6; holds = ltb st (floor s.books.sc) }
     ∷ []
 
+-- "those of the event in rising order"
 unfoldable pub checks : Event → State → List Check
 checks (delivery t) s = delivery_checks t s
 checks (vote i p b) s = vote_checks i p s
 checks (change k) s = change_checks k
 checks (read key st) s = read_checks key (snapshot st s) s
 
+-- "Every refusal [..] is given only when its condition holds and no earlier check applies.": the number of an event, if it gets one.
 unfoldable pub refusal : Event → State → Option ℕ
 refusal e s = first_of (checks e s)
 
@@ -85,7 +88,8 @@ unfoldable pub unless_refused : Option ℕ → State → Step → Step
 unless_refused none s r = r
 unless_refused (some n) s r = record { answer = refused n; finishes = []; next = s }
 
--- One event.
+-- One event: refused by its number, or what it does.
+-- "Every refusal returns its number alone [..] and is given only when its condition holds and no earlier check applies."
 unfoldable pub step : Event → State → Step
 step e s = unless_refused (refusal e s) s (accepted e s)
 
@@ -105,5 +109,7 @@ unfoldable pub desk_checks : ℕ → Event → State → List Check
 desk_checks room e s =
     record { number = 15; holds = too_little_room room e } ∷ record { number = 13; holds = not (sound s) } ∷ checks e s
 
+-- The same of any state and any finish list: "given only when its condition holds and no earlier check applies", and "Then come 15 and 13, in that
+-- order, then those of the event in rising order."
 unfoldable pub desk : ℕ → Event → State → Step
 desk room e s = unless_refused (first_of (desk_checks room e s)) s (accepted e s)

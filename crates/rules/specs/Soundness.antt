@@ -31,6 +31,7 @@ unfoldable pub different : List ℕ → Bool
 different [] = true
 different (x ∷ xs) = not (member x xs) && different xs
 
+-- The identities of the waiting list.
 abbrev pub identities : List Entry → List ℕ
 identities es = map (λ e. e.transaction.identity) es
 
@@ -46,6 +47,9 @@ good_entry partitions own dc e =
     && from_others own e.transaction.partitions e.heard.nays
     && leb e.rt (dc + most_k)
 
+-- "A state is sound when: sizes fit the table; kept commits number the smaller of SC and 64; SC plus waiting is at most DC; every stored set is within
+-- its limits and ascending; waiting identities are nonzero and different; each waiting partition set holds our own and none beyond the number opened;
+-- stored votes come from other involved partitions; every rt is at most DC + 31."
 unfoldable pub sound : State → Bool
 sound s =
     fits s
