@@ -1,7 +1,7 @@
 -- 01, "What an event does": Delivery. What becomes of a newcomer, before the closing that follows.
-use Rattle.std.specs.Prelude.{ℕ, ◌+◌, ◌-◌, Bool, true, false, not, cond, ◌&&◌, ◌||◌, List, leb, length, take}
+use Rattle.std.specs.Prelude.{ℕ, ◌+◌, ◌-◌, Bool, true, false, not, cond, ◌&&◌, ◌||◌, List, leb, length, take, insert}
+use Rattle.std.specs.List.{list_any}
 use Rattle.std.proofs.Math.Option.{Option, none, some}
-use Rattle.rules.specs.Lists.{any, insert_at}
 use Rattle.rules.specs.Partitions.{Ballot, aye, nay, Heard}
 use Rattle.rules.specs.Keys.{meet}
 use Rattle.rules.specs.Ledger.{Transaction, Entry, Commit, Clock, Books, keys_of, is_local}
@@ -55,14 +55,14 @@ placed (some i) = join i
 -- and of a global one: "Any clash: aborted, reason 2. Else it joins at the end."
 unfoldable pub fate : Clock → Transaction → List Entry → Books → Fate
 fate c t waiting b =
-    cond (any (clash_commit c.own t) (commits_after t.st b)) (abort 1)
+    cond (list_any (clash_commit c.own t) (commits_after t.st b)) (abort 1)
     (cond (is_local c.own t) (placed (place (blocks t) (passes c t) waiting))
-    (cond (any (clash_entry c.own t) waiting) (abort 2) (join (length waiting))))
+    (cond (list_any (clash_entry c.own t) waiting) (abort 2) (join (length waiting))))
 
 -- The waiting list after it.
 unfoldable pub joined : Fate → Entry → List Entry → List Entry
 joined (abort reason) e waiting = waiting
-joined (join i) e waiting = insert_at i e waiting
+joined (join i) e waiting = insert waiting i e
 
 -- "For a global one, the answer also tells the host which vote to send."
 unfoldable pub vote_to_send : Bool → Fate → Option Ballot

@@ -1,7 +1,7 @@
 -- 01, "Numbers the desk hands back": each number of an event with its condition, in the order in which they are looked at.
 use Rattle.std.specs.Prelude.{ℕ, Bool, false, not, cond, ◌&&◌, ◌||◌, List, [], ◌∷◌, eqb, leb, ltb, length}
+use Rattle.std.specs.List.{list_any}
 use Rattle.std.proofs.Math.Option.{Option, none, some}
-use Rattle.rules.specs.Lists.{any}
 use Rattle.rules.specs.Sizes.{most_waiting, most_dc, most_k, floor}
 use Rattle.rules.specs.Partitions.{bad_set, other, heard_from}
 use Rattle.rules.specs.Keys.{bad_key, bad_keys, too_many}
@@ -24,7 +24,7 @@ is_for i e = eqb e.transaction.identity i
 
 -- "an identity now waiting"
 abbrev pub waits_for : ℕ → State → Bool
-waits_for i s = any (is_for i) s.waiting
+waits_for i s = list_any (is_for i) s.waiting
 
 unfoldable pub delivery_checks : Transaction → State → List Check
 delivery_checks t s =
@@ -51,9 +51,9 @@ vote_checks i p s =
     -- "identity not waiting"
     record { number = 9; holds = not (waits_for i s) }
     -- "from our own partition, or one not involved"
-    ∷ record { number = 10; holds = any (λ e. is_for i e && not (other s.clock.own e.transaction.partitions p)) s.waiting }
+    ∷ record { number = 10; holds = list_any (λ e. is_for i e && not (other s.clock.own e.transaction.partitions p)) s.waiting }
     -- "that partition has voted on it"
-    ∷ record { number = 11; holds = any (λ e. is_for i e && heard_from e.heard p) s.waiting }
+    ∷ record { number = 11; holds = list_any (λ e. is_for i e && heard_from e.heard p) s.waiting }
     ∷ []
 
 unfoldable pub change_checks : ℕ → List Check

@@ -1,6 +1,7 @@
 -- 01, "A state is sound when": each condition of the list, as a test that computes.
 use Rattle.std.specs.Prelude.{ℕ, ◌+◌, min, Bool, true, not, ◌&&◌, List, [], ◌∷◌, map, eqb, leb, length}
-use Rattle.rules.specs.Lists.{all, member}
+use Rattle.std.specs.List.{list_all}
+use Rattle.rules.specs.Lists.{member}
 use Rattle.rules.specs.Sizes.{keys, most_waiting, most_kept, most_k, most_dc}
 use Rattle.rules.specs.Partitions.{bad_set, from_others}
 use Rattle.rules.specs.Keys.{good_set}
@@ -55,6 +56,6 @@ sound s =
     fits s
     && kept_count s
     && counted s
-    && all good_commit s.books.kept
+    && list_all good_commit s.books.kept
     && different (identities s.waiting)
-    && all (good_entry s.clock.partitions s.clock.own s.clock.dc) s.waiting
+    && list_all (good_entry s.clock.partitions s.clock.own s.clock.dc) s.waiting
