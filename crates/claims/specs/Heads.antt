@@ -78,6 +78,21 @@ ready_commit_all_yes c e r l k p low o =
     ((commits_exactly c e).0 k))
     ((ready_exactly c e).0 r)
 
+-- "every vote was yes": each other involved partition said yes, and none of them said no too.
+abbrev pub EachSaidYes : ℕ → ℕ → Heard → Type 0
+EachSaidYes own set h = (p : ℕ) → p < 8 → other own set p ≡ true → (names h.ayes p ≡ true) × (names h.nays p ≡ false)
+
+-- "A global head commits if every vote was yes, otherwise it aborts": a ready one commits exactly when every vote was yes.
+pub ready_global_commits_exactly : (c : Clock) (e : Entry) → ready c e ≡ true → is_local c.own e.transaction ≡ false
+    → commits c e ≡ true ↔ EachSaidYes c.own e.transaction.partitions e.heard
+ready_global_commits_exactly c e r l = (
+  λ k p low o. (ready_commit_all_yes c e r l k p low o, none_no k p low o),
+  λ h. (commits_exactly c e).1 (inr (λ p low o. (h p low o).1)),
+)
+  where
+    none_no : commits c e ≡ true → NoneSaidNo c.own e.transaction.partitions e.heard
+    none_no k = ⊎_elim (λ q. never (is_local c.own e.transaction) q l) (λ n. n) ((commits_exactly c e).0 k)
+
 -- A list at rest: its head, if any, isn't ready.
 abbrev pub AtRest : Clock → List Entry → Type 0
 AtRest c [] = Unit {0}
