@@ -3,7 +3,7 @@ use Rattle.std.specs.Prelude.{◌≡◌, Err, refl}
 use Rattle.std.proofs.Common.{rules}
 use Rattle.masks.specs.Ballots.{says_yes}
 use Rattle.engine.specs.Public.{vote_refuses, vote_tables, vote_partition, votable_at, vote_takes_at}
-use Rattle.engine.proofs.vote.Goals as goal
+use Rattle.engine.proofs.looking.vote.Goals as goal
 
 pub returns-in_err-i : goal.returns-in_err-i
 returns-in_err-i c =

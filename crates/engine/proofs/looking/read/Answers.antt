@@ -4,7 +4,7 @@ use mir.Facts.{to_z-of_z}
 use Rattle.std.specs.Prelude.{refl}
 use Rattle.std.proofs.Common.{rules, ◌∙◌}
 use Rattle.engine.specs.Reads.{read_refuses, version_readable, read_takes}
-use Rattle.engine.proofs.read.Goals as goal
+use Rattle.engine.proofs.looking.read.Goals as goal
 
 pub returns-in-Err : goal.returns-in-Err
 returns-in-Err c = read_refuses _ _ _ _ _ c.in-Err.ensures.number _ refl

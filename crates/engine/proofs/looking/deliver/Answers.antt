@@ -2,7 +2,7 @@
 use Rattle.std.specs.Prelude.{◌≡◌, Err, refl}
 use Rattle.std.proofs.Common.{rules}
 use Rattle.engine.specs.Public.{delivery_refused, delivery_tables, delivery_accepting, delivery_taken}
-use Rattle.engine.proofs.deliver.Goals as goal
+use Rattle.engine.proofs.looking.deliver.Goals as goal
 
 pub returns-in_err-check_delivery : goal.returns-in_err-check_delivery
 returns-in_err-check_delivery c =

@@ -2,7 +2,7 @@
 use Rattle.std.specs.Prelude.{◌≡◌, Err, refl}
 use Rattle.std.proofs.Common.{rules}
 use Rattle.engine.specs.Public.{change_refuses, change_tables, change_readies, change_takes}
-use Rattle.engine.proofs.change.Goals as goal
+use Rattle.engine.proofs.looking.change.Goals as goal
 
 pub returns-in_err-check_change : goal.returns-in_err-check_change
 returns-in_err-check_change c =
