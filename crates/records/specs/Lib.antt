@@ -9,3 +9,4 @@ pub mod Lists
 pub mod Writes
 pub mod Kinds
 pub mod Letters
+pub mod ShortAnswers

@@ -14,7 +14,7 @@ pub struct Keys {
 
 impl Keys {
     // No keys.
-    pub fn none() -> Keys
+    pub(crate) fn none() -> Keys
         ensures { take result.count result.items ≡ [] }
     {
         Keys {
@@ -24,7 +24,7 @@ impl Keys {
     }
 
     // One key more, where there is room for it.
-    pub fn with(self, key: u32) -> Keys
+    pub(crate) fn with(self, key: u32) -> Keys
         ensures { take result.count result.items ≡ take 9 (take self.count self.items ++ (key ∷ [])) }
     {
         if self.count == ITEMS {
@@ -68,7 +68,7 @@ impl Writes {
 
     // No writes.
     #[tactic(auto, using(crate::specs::Kept::writes))]
-    pub fn none() -> Writes
+    pub(crate) fn none() -> Writes
         ensures { kept_writes result ≡ [] }
     {
         Writes {
@@ -80,7 +80,7 @@ impl Writes {
 
     #[tactic(auto, using(crate::specs::Kept::writes))]
     // One write more, where there is room for it.
-    pub fn with(self, write: Write) -> Writes
+    pub(crate) fn with(self, write: Write) -> Writes
         ensures { kept_writes result ≡ take 9 (kept_writes self ++ (one_write write ∷ [])) }
     {
         if self.count == ITEMS {

@@ -13,7 +13,7 @@ ghost use Rattle.records.specs.Short.{short_record};
 ghost use Rattle.records.specs.Said.{record_said};
 ghost use Rattle.records.specs.Letters.{LetterOf};
 
-pub use items::{Delivery, ITEMS, Keys, Write, Writes};
+pub use items::{Delivery, ITEMS, Keys, Writes};
 pub use masks::Ballot;
 pub use tables::Sizes;
 

@@ -7,7 +7,8 @@ ghost use Rattle.records.specs.Kept.{keys_said, write_said, writes_said};
 ghost use Rattle.records.specs.Said.{said};
 ghost use Rattle.records.specs.Lists.{short_list};
 
-use crate::{Keys, Write, Writes, fields, parts};
+use crate::items::Write;
+use crate::{Keys, Writes, fields, parts};
 use numerals::{find, read_signed};
 
 // A key, alone.
