@@ -92,7 +92,7 @@ module _ (partitions own k : ℕ) (fits : sizes_fit partitions own k ≡ true) (
   abbrev pub start : Memory
   start = opened_in partitions own k m
 
-  start_long : Long start
+  pub start_long : Long start
   unfolding opened_in
   start_long =
       let same = opened_lengths m.book m.sums m.finishes partitions own k in

@@ -8,7 +8,7 @@ use Rattle.laws.specs.Cuts.{length_put}
 use Rattle.claims.specs.Steps.{close_nil, close_ready, close_rest}
 use Rattle.tables.specs.View.{waiting_view, length_waiting, books_view}
 use Rattle.tables.specs.Closed.{Desk, entry_words, words_of, close_desk_closes}
-use Rattle.tables.specs.Settled.{Ready, closed_desk, settled_book, length_settled, settled_finishes}
+use Rattle.tables.specs.Settled.{Ready, closed_desk, settled_book, length_settled, settled_finishes, settled_count}
 use Rattle.std.specs.Prelude.{Ok, Err}
 use Rattle.rules.specs.Delivery.{ticked}
 use Rattle.rules.specs.Events.{with_k}
@@ -20,7 +20,7 @@ use Rattle.refusing.specs.Told.{named}
 use Rattle.refusing.specs.Operands.{delivery_number, vote_number, change_number, opening_number, index_of, waiting_identities}
 use Rattle.engine.specs.declared.answers.Delivered.{Delivered}
 use Rattle.engine.specs.Fates.{fate_of}
-use Rattle.engine.specs.Answers.{After}
+use Rattle.engine.specs.Answers.{After, delivered_finishes, finishes_told}
 use Rattle.engine.specs.Delivering.{Accepting, delivered_answer, delivered_result, the_fate, desk_at, desk_ready, desk_length, desk_length_sums, desk_finishes}
 use Rattle.engine.specs.Voting.{desk_before, voted_desk, settled_result}
 use Rattle.engine.specs.Operations.{left, delivered_on, delivering, voted_on, voting, changed_on, changing, opened}
@@ -63,6 +63,14 @@ module _ (c : Clock) (d : Desk) (h : Ready c d) where
   pub settled_lengths : {A : Type 0} (a : A)
       → SameLengths d.book d.sums d.finishes (record { answer = a; book = settled_book c d; sums = (closed_desk c d).sums; finishes = (closed_desk c d).finishes })
   settled_lengths a = record { book = length_settled c d h; sums = settled_sums; finishes = settled_fin }
+
+  pub settled_few : (closed_desk c d).finished ≤ 32
+  settled_few =
+      let few = close_few c (waiting_view d.waiting d.book d.sums) (books_view d.sc d.book d.sums) in
+      let waited = length_waiting d.waiting d.book d.sums in
+      let counted = settled_count c d h in
+      let told = h.fit.few_told in
+      omega arith
 
 -- An operation that goes by its number.
 module _ {A : Type 0} (book : List ℕ) (sums : List ℤ) (fin : List ℕ) where
@@ -125,3 +133,36 @@ module _ (book : List ℕ) (sums : List ℤ) (fin : List ℕ) where
         sums = length_opened_sums book sums partitions own k long.long long.long_sums;
         finishes = refl;
       })
+
+-- No operation finishes more than 32: so many entries the finish list has at least.
+module _ {A : Type 0} (count : Result A Refusal → ℕ) (none : (r : Refusal) → count (Err r) ≡ 0) where
+  few_by_number : (n : ℕ) (r : After (Result A Refusal)) (book : List ℕ) (sums : List ℤ) (fin : List ℕ) → (n ≡ 0 → count r.answer ≤ 32)
+      → count (cond (eqb n 0) r (left (Err (named n)) book sums fin)).answer ≤ 32
+  few_by_number n r book sums fin k = split (eqb n 0) (λ q. rw q (k (eqb-true n 0 q))) (λ q. rw (q, none (named n)) (omega arith))
+
+pub delivering_few : (identity set st : ℕ) (reads keys : List ℕ) (amounts : List ℤ) (book : List ℕ) (sums : List ℤ) (fin : List ℕ)
+    → delivered_finishes (delivering identity set st reads keys amounts book sums fin).answer ≤ 32
+unfolding delivering delivered_on delivered_result
+delivering_few identity set st reads keys amounts book sums fin =
+    let n = delivery_number identity set st reads keys amounts book sums (length fin) in
+    few_by_number delivered_finishes (λ r. refl) n (delivered_on identity set st reads keys amounts book sums fin) book sums fin
+    (λ z. let h = delivery_accepting identity set st reads keys amounts book sums fin n refl z in
+    let f = the_fate identity set st reads keys amounts book sums fin h in
+    settled_few (ticked (clock_view book)) (desk_at identity set st reads keys amounts book sums fin h f)
+    (desk_ready identity set st reads keys amounts book sums fin h f refl))
+
+pub voting_few : (identity p : ℕ) (agrees : Bool) (book : List ℕ) (sums : List ℤ) (fin : List ℕ)
+    → finishes_told (voting identity p agrees book sums fin).answer ≤ 32
+unfolding voting voted_on settled_result
+voting_few identity p agrees book sums fin =
+    let n = vote_number identity p agrees book sums (length fin) in
+    few_by_number finishes_told (λ r. refl) n (voted_on identity p agrees book sums fin) book sums fin
+    (λ z. settled_few (clock_view book) (voted_desk (index_of identity (waiting_identities book)) p agrees book sums fin)
+    (votable identity p agrees book sums fin n refl z).ready)
+
+pub changing_few : (k : ℕ) (book : List ℕ) (sums : List ℤ) (fin : List ℕ) → finishes_told (changing k book sums fin).answer ≤ 32
+unfolding changing changed_on settled_result
+changing_few k book sums fin =
+    let n = change_number k book sums (length fin) in
+    few_by_number finishes_told (λ r. refl) n (changed_on k book sums fin) book sums fin
+    (λ z. settled_few (with_k k (clock_view book)) (desk_before book sums fin) (change_readies k book sums fin n refl z))
