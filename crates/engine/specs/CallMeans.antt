@@ -140,6 +140,15 @@ call_long (vote i p b) m long = lengths_long voted_said finishes_told m _ (votin
 call_long (change k) m long = lengths_long changed_said finishes_told m _ (changing_lengths m.book m.sums m.finishes k) long
 call_long (read key st) m long = long
 
+-- The finish list too, whatever is lent.
+pub call_list : (e : Event) (m : Memory) → length (call e m).memory.finishes ≡ length m.finishes
+unfolding call
+call_list (delivery t) m =
+    (delivering_lengths t.identity t.partitions t.st t.reads (keys_of t.writes) (amounts_of t.writes) m.book m.sums m.finishes).finishes
+call_list (vote i p b) m = (voting_lengths m.book m.sums m.finishes i p (is_aye b)).finishes
+call_list (change k) m = (changing_lengths m.book m.sums m.finishes k).finishes
+call_list (read key st) m = refl
+
 -- With a sound state held, a call is the event's own step, and the state after it is sound.
 pub call_steps : (e : Event) (m : Memory) → Long m → sound (held m) ≡ true → Meant m (call e m) (step e (held m))
 call_steps e m long ok =

@@ -1,11 +1,11 @@
 -- One record, answered: what the operations leave and what the writers write, together.
-use Rattle.std.specs.Prelude.{ℕ, ◌+◌, ◌*◌, ◌≤◌, Bool, true, false, List, [], ◌++◌, ◌≡◌, refl, ℤ, pos, length, take, get_or, Ok, Err, Some, None}
+use Rattle.std.specs.Prelude.{ℕ, ◌+◌, ◌*◌, ◌≤◌, Bool, true, false, List, ◌++◌, ◌≡◌, refl, ℤ, pos, length, take, get_or, Some, None}
 use Rattle.std.specs.declared.option.Option as code
 use Rattle.std.proofs.Common.{Result, sym, ap, ap₂, ◌∙◌, arith, append-nil}
 use Rattle.rules.specs.Partitions.{is_aye}
-use Rattle.rules.specs.Ledger.{Write, Transaction, keys_of}
+use Rattle.rules.specs.Ledger.{Write, Transaction}
 use Rattle.records.specs.declared.items.Delivery.{Delivery}
-use Rattle.rules.specs.Events.{Event, delivery, vote, change, read, Snapshot}
+use Rattle.rules.specs.Events.{Event, delivery, vote, change, read}
 use Rattle.rules.specs.Soundness.{sound}
 use Rattle.rules.specs.AnswerText.{answer_text, delivery_text, vote_text, change_text, read_text}
 use Rattle.laws.specs.Tabs.{tab, map_tab, tab_list}
@@ -23,7 +23,7 @@ use Rattle.engine.specs.declared.answers.Reading.{Reading}
 use Rattle.engine.specs.Answers.{After, delivered_said, delivered_finishes, voted_said, changed_said, finishes_told, reading_said}
 use Rattle.engine.specs.Operations.{left, delivering, voting, changing, reading}
 use Rattle.engine.specs.Lengths.{delivering_few, voting_few, changing_few, delivering_lengths, voting_lengths, changing_lengths}
-use Rattle.engine.specs.Calls.{Memory, held, Called, called, amounts_of, asking, call}
+use Rattle.engine.specs.Calls.{Memory, held, called, amounts_of, asking, call}
 use Rattle.engine.specs.CallMeans.{Long, call_long, call_steps}
 use Rattle.answers.specs.declared.TheConstants.{HEAD, LONGEST}
 use Rattle.answers.specs.Finishes.{words_text}

@@ -1,19 +1,16 @@
 -- A log may come in any pieces: what all calls write together, and the memory after the last, are what the rules' program gives of the log in one piece.
-use Rattle.std.specs.Prelude.{ℕ, ◌+◌, ◌≤◌, Bool, true, false, List, [], ◌∷◌, ◌++◌, ◌≡◌, refl, leb, eqb, ltb, length, drop}
+use Rattle.std.specs.Prelude.{ℕ, Bool, true, false, List, [], ◌∷◌, ◌++◌, ◌≡◌, refl, drop}
 use Rattle.std.proofs.Math.Option.{Option, none}
-use Rattle.std.proofs.Common.{sym, ap, ◌∙◌, arith, append_assoc, append-nil, le-leb, ltb-false, ⊎_elim}
+use Rattle.std.proofs.Common.{sym, ap, ◌∙◌, arith, append_assoc, append-nil}
 use Rattle.rules.specs.Ledger.{State}
-use Rattle.rules.specs.Lists.{member}
-use Rattle.rules.specs.Bytes.{split, newline}
-use Rattle.rules.specs.Records.{line_limit}
+use Rattle.rules.specs.Bytes.{split}
 use Rattle.rules.specs.Program.{Told, take_lines, whole_lines, run_text}
-use Rattle.laws.specs.Tests as tests
 use Rattle.engine.specs.Calls.{Memory}
 use Rattle.engine.specs.CallMeans.{Long}
 use Rattle.feed.specs.declared.Standing.{Standing}
-use Rattle.feed.specs.Feeding.{Taken, feeding}
+use Rattle.feed.specs.Feeding.{feeding}
 use Rattle.feed.specs.Meaning.{ledger, Fit}
-use Rattle.feed.specs.Cutting.{rest, rest_of, Continues, chunk_continues}
+use Rattle.feed.specs.Cutting.{rest, rest_of, chunk_continues}
 
 -- What a call is given: the bytes that are new, and room for so many bytes of answers.
 pub record Piece : Type 0 where

@@ -1,21 +1,21 @@
 -- Whatever a chunk takes, its text and what the rest of the log gives afterwards are what the rules' program gives: so a log may be cut anywhere.
-use Rattle.std.specs.Prelude.{ℕ, suc, ◌+◌, ◌-◌, ◌≤◌, ◌<◌, Bool, true, false, not, cond, ◌&&◌, zero, List, [], ◌∷◌, ◌++◌, ◌≡◌, refl, eqb, ltb, length, drop}
-use Rattle.std.proofs.Math.Option.{Option, none, some}
+use Rattle.std.specs.Prelude.{ℕ, suc, ◌+◌, ◌-◌, ◌≤◌, ◌<◌, Bool, true, false, not, cond, ◌||◌, zero, List, [], ◌∷◌, ◌++◌, ◌≡◌, refl, eqb, ltb, length, drop}
+use Rattle.std.proofs.Math.Option.{Option}
 use Rattle.std.proofs.Common.{sym, ap, ap₂, ◌∙◌, subst, arith, ⊎_elim, append_assoc, append-nil, length-append, lt-ltb, ltb-true}
-use Rattle.std.proofs.lemmas.Bool.{not-true, eqb-false}
+use Rattle.std.proofs.lemmas.Bool.{not-false, eqb-false}
 use Rattle.rules.specs.Lists.{member}
 use Rattle.rules.specs.Ledger.{State}
 use Rattle.rules.specs.Bytes.{split, newline}
 use Rattle.rules.specs.Records.{line_limit, record_of, unreadable}
 use Rattle.rules.specs.AnswerText.{refusal_text}
-use Rattle.rules.specs.Program.{Told, take_record, take_lines, whole_lines, run_text}
+use Rattle.rules.specs.Program.{Told, take_record, take_lines, whole_lines}
 use Rattle.laws.specs.Tests as tests
 use Rattle.numerals.specs.Parts.{split_absent, split_front}
 use Rattle.engine.specs.Calls.{Memory}
-use Rattle.feed.specs.Splits.{glue, behind_first, behind_glue, Parts, some_part, split_glue, FirstLine, first_line, whole_more, whole_some, drop_line, drop_whole}
+use Rattle.feed.specs.Splits.{behind_first, behind_glue, some_part, split_glue, FirstLine, first_line, whole_more, whole_some, drop_line, drop_whole}
 use Rattle.feed.specs.declared.Standing.{Standing}
-use Rattle.feed.specs.Feeding.{Recorded, line_record, recorded, Taken, stopped, behind, has_room, line_taken, tail_taken, lines_taken, feeding}
-use Rattle.feed.specs.Meaning.{ledger, Fit, Tells, line_tells}
+use Rattle.feed.specs.Feeding.{Recorded, line_record, recorded, whole_given, Taken, stopped, behind, has_room, is_left, line_taken, tail_taken, lines_taken, feeding}
+use Rattle.feed.specs.Meaning.{ledger, Fit, line_tells}
 
 -- What the rules' program gives for the rest of a log: of a log that stands inside a line that is too long, for what comes behind that line.
 unfoldable pub rest : Bool → List ℕ → Option State → Told
@@ -125,14 +125,13 @@ module _ (tail future : List ℕ) (h : member newline tail ≡ false) (p : Stand
   tail_continues at_end room ends =
       let C = Continues p m tail future in
       by_test C p.skipping skipped_tail
-      (λ q. by_test C (ltb line_limit (length tail))
-      (λ r. by_test C (has_room room) (λ s. long_tail q (ltb-true line_limit (length tail) r)) (λ s. stays true p m tail future fit))
-      (λ r. by_test C (at_end && not (eqb (length tail) 0))
-      (λ t. by_test C (has_room room)
-      (λ s. let one = eqb-false (length tail) 0 (not-true (eqb (length tail) 0) (tests.and_right at_end (not (eqb (length tail) 0)) t)) in
-      last_tail q (ends (tests.and_left at_end (not (eqb (length tail) 0)) t)) (some_length one))
-      (λ s. stays true p m tail future fit))
-      (λ t. stays false p m tail future fit)))
+      (λ q. by_test C (is_left at_end tail) (λ r. stays false p m tail future fit)
+      (λ r. by_test C (has_room room)
+      (λ s. by_test C (ltb line_limit (length tail)) (λ t. long_tail q (ltb-true line_limit (length tail) t))
+      (λ t. let last : (not at_end || eqb (length tail) 0) ≡ false = rw t at r in
+      last_tail q (ends (not-false at_end (tests.or_left (not at_end) (eqb (length tail) 0) last)))
+      (some_length (eqb-false (length tail) 0 (tests.or_right (not at_end) (eqb (length tail) 0) last)))))
+      (λ s. stays true p m tail future fit)))
 
 -- A line with its newline in front of others of which it is known already.
 module _ (line others future : List ℕ) (h : member newline line ≡ false) (p : Standing) (m : Memory) where
@@ -173,12 +172,17 @@ module _ (line others future : List ℕ) (h : member newline line ≡ false) (p 
         (known room (record { opened = r.opened; skipping = false }) r.memory (line_tells line p.opened m fit).fit)
 
     line_continues : (room : ℕ) → Continues p m (line ++ newline ∷ others) future (lines_taken at_end room (line ∷ first ∷ lines) p m)
-    unfolding lines_taken
+    unfolding lines_taken whole_given
     line_continues room =
         let C = Continues p m (line ++ newline ∷ others) future in
-        let r = recorded (line_record line) p.opened m in
-        by_test C p.skipping (skipped_continues room)
-        (λ q. by_test C (has_room room) (λ s. told_continues (room - length r.text) q) (λ s. stays true p m (line ++ newline ∷ others) future fit))
+        let after = λ (r : Recorded).
+        behind (length line + 1) r.text (lines_taken at_end (room - length r.text) (first ∷ lines) (record { opened = r.opened; skipping = false }) r.memory) in
+        let given = λ (b : Bool) (q : p.skipping ≡ b) (told : C (after (whole_given b line p.opened m))).
+        subst (λ (a : Bool). C (after (whole_given a line p.opened m))) (sym q) told in
+        by_test C (p.skipping || has_room room)
+        (λ s. tests.split p.skipping (λ q. given true q (skipped_continues (room - 0) q))
+        (λ q. given false q (told_continues (room - length (recorded (line_record line) p.opened m).text) q)))
+        (λ s. stays true p m (line ++ newline ∷ others) future fit)
 
 -- Bytes that have a newline, where all that is shorter is known.
 module _ (at_end : Bool) (future : List ℕ) (ends : at_end ≡ true → future ≡ []) where

@@ -1,5 +1,5 @@
 -- What a chunk of text gives, on lent memory: one definition on bytes, which settles what is written, how far the chunk is taken, and what the memory then holds.
-use Rattle.std.specs.Prelude.{ℕ, ◌+◌, ◌-◌, Bool, true, false, not, cond, ◌&&◌, List, [], ◌∷◌, ◌++◌, leb, ltb, eqb, length, Ok, Err, ℤ, replicate}
+use Rattle.std.specs.Prelude.{ℕ, ◌+◌, ◌-◌, Bool, true, false, not, cond, ◌&&◌, ◌||◌, List, [], ◌∷◌, ◌++◌, leb, ltb, eqb, length, Ok, Err, ℤ, replicate}
 use Rattle.std.proofs.Common.{Result}
 use Rattle.rules.specs.Events.{Event}
 use Rattle.rules.specs.Bytes.{split, newline}
@@ -45,6 +45,11 @@ recorded (opens partitions own k) false m = opening_given partitions own k (open
 recorded (event e) true m = record { text = called_text e (call e m); opened = true; memory = (call e m).memory }
 recorded (event e) false m = out_of_turn false m
 
+-- A line with its newline: the end of one that is skipped, or one to answer.
+unfoldable pub whole_given : Bool → List ℕ → Bool → Memory → Recorded
+whole_given true line is_open m = record { text = []; opened = is_open; memory = m }
+whole_given false line is_open m = recorded (line_record line) is_open m
+
 -- What a chunk gives: the text written, how many bytes are taken, whether it stopped for want of room, how the log then stands, and the memory.
 pub record Taken : Type 0 where
   pub text : List ℕ
@@ -74,27 +79,29 @@ line_taken bytes line p m =
     let r = recorded (line_record line) p.opened m in
     taken_whole bytes r.text (record { opened = r.opened; skipping = false }) r.memory
 
--- What stands behind the last newline: skipped, if the line it belongs to is too long already; too long itself ("A line over 512 bytes without its newline (skipped whole)");
--- at the end of the log the last line, which "may lack its newline"; else left for the next chunk.
+-- What stands behind the last newline is left for the next chunk where it isn't too long, and the log goes on, or there is nothing of it.
+abbrev pub is_left : Bool → List ℕ → Bool
+is_left at_end tail = not (ltb line_limit (length tail)) && (not at_end || eqb (length tail) 0)
+
+-- What stands behind the last newline: skipped, if the line it belongs to is too long already; or left; or too long itself ("A line over 512 bytes without its newline (skipped
+-- whole)"), and skipped from here on; or, at the end of the log, the last line, which "may lack its newline".
 unfoldable pub tail_taken : Bool → ℕ → List ℕ → Standing → Memory → Taken
 tail_taken at_end room tail p m =
     cond p.skipping (taken_whole (length tail) [] p m)
-    (cond (ltb line_limit (length tail))
-    (cond (has_room room) (taken_whole (length tail) (refusal_text 14) (record { opened = p.opened; skipping = true }) m) (stopped true p m))
-    (cond (at_end && not (eqb (length tail) 0))
-    (cond (has_room room) (line_taken (length tail) tail p m) (stopped true p m))
-    (stopped false p m)))
+    (cond (is_left at_end tail) (stopped false p m)
+    (cond (has_room room)
+    (cond (ltb line_limit (length tail)) (taken_whole (length tail) (refusal_text 14) (record { opened = p.opened; skipping = true }) m) (line_taken (length tail) tail p m))
+    (stopped true p m)))
 
 -- The lines of a chunk one after the other, while there is room for the longest answer of one event.
 unfoldable pub lines_taken : Bool → ℕ → List (List ℕ) → Standing → Memory → Taken
 lines_taken at_end room [] p m = stopped false p m
 lines_taken at_end room (tail ∷ []) p m = tail_taken at_end room tail p m
 lines_taken at_end room (line ∷ next ∷ lines) p m =
-    cond p.skipping (behind (length line + 1) [] (lines_taken at_end room (next ∷ lines) (record { opened = p.opened; skipping = false }) m))
-    (cond (has_room room)
-    (let r = recorded (line_record line) p.opened m in
+    cond (p.skipping || has_room room)
+    (let r = whole_given p.skipping line p.opened m in
     behind (length line + 1) r.text (lines_taken at_end (room - length r.text) (next ∷ lines) (record { opened = r.opened; skipping = false }) r.memory))
-    (stopped true p m))
+    (stopped true p m)
 
 abbrev pub feeding : Bool → ℕ → List ℕ → Standing → Memory → Taken
 feeding at_end room input p m = lines_taken at_end room (split newline input) p m

@@ -5,3 +5,5 @@ pub mod Cutting
 pub mod AnyCutting
 pub mod Answering
 pub mod Taking
+pub mod Walking
+pub mod Ending

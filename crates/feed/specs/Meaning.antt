@@ -1,20 +1,20 @@
 -- What a record gives on lent memory is what the rules' program gives of the state that the memory holds.
-use Rattle.std.specs.Prelude.{ℕ, Bool, true, false, List, [], ◌++◌, ◌≡◌, refl, length, Ok, Err}
+use Rattle.std.specs.Prelude.{ℕ, Bool, true, false, List, ◌++◌, ◌≡◌, refl, Err}
 use Rattle.std.proofs.Math.Option.{Option, none, some}
-use Rattle.std.proofs.Common.{Result, sym, ap, ap₂, ◌∙◌, arith, subst}
-use Rattle.rules.specs.Ledger.{State, sizes_fit, opening}
-use Rattle.rules.specs.Events.{Event, Answer, Step}
+use Rattle.std.proofs.Common.{ap, ap₂, subst}
+use Rattle.rules.specs.Ledger.{State, sizes_fit}
+use Rattle.rules.specs.Events.{Event, Answer}
 use Rattle.rules.specs.Refusals.{step}
 use Rattle.rules.specs.Soundness.{sound}
 use Rattle.rules.specs.Records.{Record, opens, event, unreadable, record_of}
-use Rattle.rules.specs.AnswerText.{answer_text, finishes_text, step_text}
+use Rattle.rules.specs.AnswerText.{answer_text, step_text}
 use Rattle.rules.specs.Program.{Told, open_record, event_record, take_record}
 use Rattle.laws.specs.Tests.{split}
 use Rattle.claims.specs.Soundness.{step_sound, opening_sound}
 use Rattle.engine.specs.Operations.{opened}
 use Rattle.engine.specs.Meanings.{long_enough, opened_means}
 use Rattle.engine.specs.Calls.{Memory, held, call, opened_in}
-use Rattle.engine.specs.CallMeans.{Long, Meant, call_long, call_steps}
+use Rattle.engine.specs.CallMeans.{Long, call_long, call_steps}
 use Rattle.engine.specs.Demands.{start_long, opened_holds}
 use Rattle.refusing.specs.Told.{named}
 use Rattle.refusing.specs.Operands.{opening_number}

@@ -1,12 +1,11 @@
 -- Where the lines of some bytes go when more bytes come behind them.
-use Rattle.std.specs.Prelude.{ℕ, suc, ◌+◌, ◌<◌, Bool, true, false, cond, ◌⊎◌, List, [], ◌∷◌, ◌++◌, ◌≡◌, refl, eqb, length, drop}
+use Rattle.std.specs.Prelude.{ℕ, suc, ◌+◌, ◌<◌, false, ◌⊎◌, List, [], ◌∷◌, ◌++◌, ◌≡◌, refl, eqb, length, drop}
 use Rattle.std.proofs.Common.{sym, ap, ◌∙◌, arith, eqb-true, eq-eqb, ne_eqb, inl, inr, ⊎_elim}
 use Rattle.std.proofs.Math.Seq.{drop-append-add}
 use Rattle.rules.specs.Lists.{member}
-use Rattle.rules.specs.Bytes.{split, onto_first, newline}
+use Rattle.rules.specs.Bytes.{split, onto_first}
 use Rattle.rules.specs.Program.{whole_lines}
 use Rattle.laws.specs.Tests as tests
-use Rattle.numerals.specs.Parts.{split_front}
 
 -- Bytes put in front of the first line.
 abbrev pub glue : List ℕ → List (List ℕ) → List (List ℕ)

@@ -1,5 +1,5 @@
 -- One line, taken: what it leaves is what the definition on bytes gives of it.
-use Rattle.std.specs.Prelude.{ℕ, ◌+◌, ◌≤◌, Bool, true, false, not, ◌||◌, List, [], ◌++◌, ◌≡◌, refl, ℤ, length, Ok, Err}
+use Rattle.std.specs.Prelude.{ℕ, ◌+◌, ◌≤◌, Bool, true, false, not, ◌||◌, List, [], ◌≡◌, refl, ℤ, length, Ok, Err}
 use Rattle.std.proofs.Common.{Result, sym, ap, ◌∙◌, arith}
 use Rattle.rules.specs.Ledger.{sizes_fit}
 use Rattle.rules.specs.Events.{Event}
@@ -21,7 +21,7 @@ use Rattle.tables.specs.declared.ledgers.Sizes.{Sizes}
 use Rattle.records.specs.declared.Record as code
 use Rattle.records.specs.declared.Record.TheVariants.{Opening, Delivery, Vote, Change, Read}
 use Rattle.records.specs.Said.{one_said}
-use Rattle.engine.specs.Calls.{Memory, call, opened_in}
+use Rattle.engine.specs.Calls.{Memory, opened_in}
 use Rattle.engine.specs.Answers.{After}
 use Rattle.answers.specs.declared.TheConstants.{HEAD}
 use Rattle.feed.specs.declared.taking.Line.{Line}

@@ -39,13 +39,7 @@ fn open(sizes: Sizes, book: &mut [u32], sums: &mut [i64], out: &mut [u8], at: us
 }
 
 // "program: event before opening"
-fn take_first(
-    said: &Record,
-    book: &mut [u32],
-    sums: &mut [i64],
-    out: &mut [u8],
-    at: usize,
-) -> Line
+fn take_first(said: &Record, book: &mut [u32], sums: &mut [i64], out: &mut [u8], at: usize) -> Line
     requires room { at + LONGEST ≤ length out.old }
     ensures { (fin : List ℕ) → Took (recorded (one_said said.now) false (memory book.old sums.old fin)) (memory book.new sums.new fin) out.old at out.new result }
 {
@@ -81,7 +75,9 @@ fn take_next(
             identity,
             partition,
             ballot,
-        } => answer_vote(*identity, *partition, *ballot, known, book, sums, finishes, out, at),
+        } => answer_vote(
+            *identity, *partition, *ballot, known, book, sums, finishes, out, at,
+        ),
         Record::Change { k } => answer_change(*k, known, book, sums, finishes, out, at),
         Record::Read { key, st } => answer_read(*key, *st, known, book, sums, out, at),
     }

@@ -37,7 +37,7 @@ pub enum Record {
 }
 
 // "A line over 512 bytes without its newline"
-const LINE: usize = 512;
+pub const LINE: usize = 512;
 
 // Behind the letter and its tab.
 const FIELDS: usize = 2;

@@ -1,5 +1,5 @@
 -- What the operation left, its own line, and the finishes' lines behind it.
-use Rattle.std.proofs.Common.{rules, ◌∙◌, sym}
+use Rattle.std.proofs.Common.{◌∙◌, sym}
 use Rattle.feed.specs.Answering.{delivered, entries_fit, room_left, answered}
 use Rattle.feed.proofs.answering.answer_delivery.Goals as goal
 

@@ -1,5 +1,4 @@
 -- What the operation left, its own line, and the finishes' lines behind it.
-use Rattle.std.proofs.Common.{rules, ◌∙◌, sym}
 use Rattle.feed.specs.Answering.{voted, entries_fit, room_left, answered}
 use Rattle.feed.proofs.answering.answer_vote.Goals as goal
 

@@ -1,5 +1,4 @@
 -- An opening is refused by its number, or the tables hold the opening.
-use Rattle.std.proofs.Common.{rules}
 use Rattle.feed.specs.Taking.{took_refused_opening, took_opening}
 use Rattle.feed.specs.Answering.{memory}
 use Rattle.feed.proofs.taking.open.Goals as goal

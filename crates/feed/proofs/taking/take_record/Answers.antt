@@ -1,5 +1,4 @@
 -- Before opening as there; afterwards what was known stays known.
-use Rattle.std.proofs.Common.{rules}
 use Rattle.feed.specs.Taking.{took_next}
 use Rattle.feed.proofs.taking.take_record.Goals as goal
 
