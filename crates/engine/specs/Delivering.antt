@@ -199,14 +199,14 @@ module _ (identity set st : ℕ) (reads keys : List ℕ) (amounts : List ℤ) (b
       → Sound c (waiting_view (desk_at f).waiting (desk_at f).book (desk_at f).sums) (books_view (desk_at f).sc (desk_at f).book (desk_at f).sums)
   desk_sound f q = rw (desk_list f q, desk_books f q) (before_closing f)
 
-  desk_length : (f : Fate) → the_fate ≡ f → length (desk_at f).book ≡ length book
+  pub desk_length : (f : Fate) → the_fate ≡ f → length (desk_at f).book ≡ length book
   unfolding delivery_desk
   desk_length (abort reason) q = refl
   desk_length (join i) q =
       length_joined book sums n i (first_words identity set st (c.dc + c.k) reads keys) reads keys amounts h.long h.long_sums ok.list_open (within i q)
       refl ok.few_reads ok.few_keys h.same
 
-  desk_length_sums : (f : Fate) → the_fate ≡ f → length (desk_at f).sums ≡ length sums
+  pub desk_length_sums : (f : Fate) → the_fate ≡ f → length (desk_at f).sums ≡ length sums
   unfolding delivery_desk
   desk_length_sums (abort reason) q = refl
   desk_length_sums (join i) q =
@@ -235,7 +235,7 @@ module _ (identity set st : ℕ) (reads keys : List ℕ) (amounts : List ℤ) (b
   desk_untold (abort reason) = refl
   desk_untold (join i) = refl
 
-  desk_finishes : (f : Fate) → (desk_at f).finishes ≡ fin
+  pub desk_finishes : (f : Fate) → (desk_at f).finishes ≡ fin
   unfolding delivery_desk
   desk_finishes (abort reason) = refl
   desk_finishes (join i) = refl

@@ -1,0 +1,12 @@
+-- One line of the log as text, and the record that the reader makes of it. Read from the top: what is kept of a record, what a record of the code says, where the
+-- parts of a line end, lists, the kinds of record, the letter in front.
+pub mod Short
+pub mod Kept
+pub mod Said
+pub mod Ends
+pub mod Fields
+pub mod Lists
+pub mod Writes
+pub mod Kinds
+pub mod Letters
+pub mod ShortAnswers

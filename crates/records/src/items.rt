@@ -1,0 +1,150 @@
+// The items of a delivery's lists, as they are read.
+ghost use Rattle.std.specs.Prelude.{◌≤◌, ◌≡◌, length, take, ◌++◌, [], ◌∷◌};
+
+// So many items of a list are kept: eight are the most that a delivery may have, and a ninth shows that there are more. What stands behind it is read and checked, and left out.
+pub const ITEMS: usize = 9;
+
+// The keys of a list.
+#[derive(Clone, Copy)]
+pub struct Keys {
+    pub items: [u32; ITEMS],
+    pub count: usize,
+    pub ghost few: { count ≤ 9 },
+}
+
+impl Keys {
+    // No keys.
+    pub(crate) fn none() -> Keys
+        ensures { take result.count result.items ≡ [] }
+    {
+        Keys {
+            items: [0; ITEMS],
+            count: 0,
+        }
+    }
+
+    // One key more, where there is room for it.
+    pub(crate) fn with(self, key: u32) -> Keys
+        ensures { take result.count result.items ≡ take 9 (take self.count self.items ++ (key ∷ [])) }
+    {
+        if self.count == ITEMS {
+            return self;
+        }
+        let mut items = self.items;
+        items[self.count] = key;
+        Keys {
+            items,
+            count: self.count + 1,
+        }
+    }
+
+    // The keys that are kept.
+    pub fn as_slice(&self) -> &[u32]
+        ensures { result.now ≡ take self.now.count self.now.items }
+    {
+        &self.items[..self.count]
+    }
+}
+
+// A key written, and the amount written to it.
+#[derive(Clone, Copy)]
+pub struct Write {
+    pub key: u32,
+    pub amount: i64,
+}
+
+// The writes of a list: the keys, and an amount for each. They stand side by side, as the engine is lent them.
+#[derive(Clone, Copy)]
+pub struct Writes {
+    pub keys: [u32; ITEMS],
+    pub amounts: [i64; ITEMS],
+    pub count: usize,
+    pub ghost few: { count ≤ 9 },
+}
+
+impl Writes {
+    ghost use Rattle.rules.specs.Ledger.{Write};
+    ghost use Rattle.records.specs.Kept.{kept_writes, one_write};
+
+    // No writes.
+    #[tactic(auto, using(crate::specs::Kept::writes))]
+    pub(crate) fn none() -> Writes
+        ensures { kept_writes result ≡ [] }
+    {
+        Writes {
+            keys: [0; ITEMS],
+            amounts: [0; ITEMS],
+            count: 0,
+        }
+    }
+
+    #[tactic(auto, using(crate::specs::Kept::writes))]
+    // One write more, where there is room for it.
+    pub(crate) fn with(self, write: Write) -> Writes
+        ensures { kept_writes result ≡ take 9 (kept_writes self ++ (one_write write ∷ [])) }
+    {
+        if self.count == ITEMS {
+            return self;
+        }
+        let mut keys = self.keys;
+        keys[self.count] = write.key;
+        let mut amounts = self.amounts;
+        amounts[self.count] = write.amount;
+        Writes {
+            keys,
+            amounts,
+            count: self.count + 1,
+        }
+    }
+
+    // The keys that are kept.
+    pub fn keys(&self) -> &[u32]
+        ensures kept { result.now ≡ take self.now.count self.now.keys }
+        ensures all { length result.now ≡ self.now.count }
+    {
+        &self.keys[..self.count]
+    }
+
+    // An amount for each.
+    pub fn amounts(&self) -> &[i64]
+        ensures kept { result.now ≡ take self.now.count self.now.amounts }
+        ensures all { length result.now ≡ self.now.count }
+    {
+        &self.amounts[..self.count]
+    }
+}
+
+// "D identity, partition set, st, reads, writes as key=value"
+#[derive(Clone, Copy)]
+pub struct Delivery {
+    pub identity: u32,
+    pub set: u32,
+    pub st: u32,
+    pub reads: Keys,
+    pub writes: Writes,
+}
+
+impl Delivery {
+    // The keys read that are kept.
+    pub fn reads(&self) -> &[u32]
+        ensures { result.now ≡ take self.now.reads.count self.now.reads.items }
+    {
+        self.reads.as_slice()
+    }
+
+    // The keys written that are kept.
+    pub fn keys(&self) -> &[u32]
+        ensures kept { result.now ≡ take self.now.writes.count self.now.writes.keys }
+        ensures all { length result.now ≡ self.now.writes.count }
+    {
+        self.writes.keys()
+    }
+
+    // An amount for each.
+    pub fn amounts(&self) -> &[i64]
+        ensures kept { result.now ≡ take self.now.writes.count self.now.writes.amounts }
+        ensures all { length result.now ≡ self.now.writes.count }
+    {
+        self.writes.amounts()
+    }
+}
