@@ -10,3 +10,8 @@ pub mod Writes
 pub mod Kinds
 pub mod Letters
 pub mod ShortAnswers
+pub mod Joined
+pub mod RecordTexts
+pub mod ListTexts
+pub mod RecordReadBack
+pub mod RecordOneText

@@ -12,7 +12,7 @@ use Rattle.rules.specs.AnswerText.{finishes_text, delivery_text, answer_text, st
 use Rattle.rules.specs.Records.{Record, opens, event, unreadable}
 use Rattle.rules.specs.Program.{Told, event_record, take_record}
 use Rattle.laws.specs.Tests as tests
-use Rattle.records.specs.Short.{items, short_delivery, short_record}
+use Rattle.records.specs.Short.{items_kept, short_delivery, short_record}
 
 -- "more than 8 keys read or more than 8 written"
 abbrev many : Transaction → Bool
@@ -38,19 +38,19 @@ told_many t s h =
     ∙ ap (λ (text : List ℕ). let told : Told = record { text = text; ledger = some s } in told) (append-nil (refusal_text (many_number t s)))
 
 -- Nine are kept, so that too many stay too many.
-many_kept : (n m : ℕ) → m ≡ min items n → ltb 8 m ≡ ltb 8 n
+many_kept : (n m : ℕ) → m ≡ min items_kept n → ltb 8 m ≡ ltb 8 n
 many_kept n m e =
     tests.split (ltb 8 n) (λ q. let more = ltb-true 8 n q in rw q (lt-ltb 8 m (omega arith))) (λ q. let few = ltb-false 8 n q in rw q (le-ltb 8 m (omega arith)))
 
 short_many : (t : Transaction) → many (short_delivery t) ≡ many t
 short_many t =
-    ap₂ (λ (a b : Bool). a || b) (many_kept (length t.reads) (length (take items t.reads)) (length-take items t.reads))
-    (many_kept (length (keys_of t.writes)) (length (keys_of (take items t.writes)))
-    (length-map (take items t.writes) (λ w. w.key) ∙ (length-take items t.writes ∙ ap (min items) (sym (length-map t.writes (λ w. w.key))))))
+    ap₂ (λ (a b : Bool). a || b) (many_kept (length t.reads) (length (take items_kept t.reads)) (length-take items_kept t.reads))
+    (many_kept (length (keys_of t.writes)) (length (keys_of (take items_kept t.writes)))
+    (length-map (take items_kept t.writes) (λ w. w.key) ∙ (length-take items_kept t.writes ∙ ap (min items_kept) (sym (length-map t.writes (λ w. w.key))))))
 
 -- A list of at most eight is itself.
-few_kept : {A : Type 0} (xs : List A) → ltb 8 (length xs) ≡ false → take items xs ≡ xs
-few_kept xs h = let few = ltb-false 8 (length xs) h in take_all items xs (omega arith)
+few_kept : {A : Type 0} (xs : List A) → ltb 8 (length xs) ≡ false → take items_kept xs ≡ xs
+few_kept xs h = let few = ltb-false 8 (length xs) h in take_all items_kept xs (omega arith)
 
 short_few : (t : Transaction) → many t ≡ false → short_delivery t ≡ t
 short_few t h =

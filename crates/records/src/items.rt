@@ -1,7 +1,9 @@
 // The items of a delivery's lists, as they are read.
-ghost use Rattle.std.specs.Prelude.{◌≤◌, ◌≡◌, length, take, ◌++◌, [], ◌∷◌};
+ghost use Rattle.std.specs.Prelude.{◌≤◌, ◌++◌, [], ◌∷◌, ◌≡◌, length, take};
+ghost use Rattle.records.specs.Short.{items_kept};
 
-// So many items of a list are kept: eight are the most that a delivery may have, and a ninth shows that there are more. What stands behind it is read and checked, and left out.
+// So many items of a list are kept: eight are the most that a delivery may read or write, and a ninth shows that there are more. What stands behind it is read and
+// checked like the others, and left out.
 pub const ITEMS: usize = 9;
 
 // The keys of a list.
@@ -9,13 +11,15 @@ pub const ITEMS: usize = 9;
 pub struct Keys {
     pub items: [u32; ITEMS],
     pub count: usize,
-    pub ghost few: { count ≤ 9 },
+    pub ghost few: { count ≤ items_kept },
 }
 
 impl Keys {
+    ghost use Rattle.records.specs.Kept.{kept_keys};
+
     // No keys.
     pub(crate) fn none() -> Keys
-        ensures { take result.count result.items ≡ [] }
+        ensures { kept_keys result ≡ [] }
     {
         Keys {
             items: [0; ITEMS],
@@ -25,7 +29,7 @@ impl Keys {
 
     // One key more, where there is room for it.
     pub(crate) fn with(self, key: u32) -> Keys
-        ensures { take result.count result.items ≡ take 9 (take self.count self.items ++ (key ∷ [])) }
+        ensures { kept_keys result ≡ take items_kept (kept_keys self ++ (key ∷ [])) }
     {
         if self.count == ITEMS {
             return self;
@@ -59,7 +63,7 @@ pub struct Writes {
     pub keys: [u32; ITEMS],
     pub amounts: [i64; ITEMS],
     pub count: usize,
-    pub ghost few: { count ≤ 9 },
+    pub ghost few: { count ≤ items_kept },
 }
 
 impl Writes {
@@ -78,10 +82,10 @@ impl Writes {
         }
     }
 
-    #[tactic(auto, using(crate::specs::Kept::writes))]
     // One write more, where there is room for it.
+    #[tactic(auto, using(crate::specs::Kept::writes))]
     pub(crate) fn with(self, write: Write) -> Writes
-        ensures { kept_writes result ≡ take 9 (kept_writes self ++ (one_write write ∷ [])) }
+        ensures { kept_writes result ≡ take items_kept (kept_writes self ++ (one_write write ∷ [])) }
     {
         if self.count == ITEMS {
             return self;
