@@ -9,7 +9,7 @@ use Rattle.rules.specs.Ledger.{Write, Transaction, State, keys_of}
 use Rattle.rules.specs.Events.{delivery, vote, change, read, refused, Step, accepted}
 use Rattle.rules.specs.Refusals.{first_of, delivery_checks, checks, refusal, unless_refused, step}
 use Rattle.rules.specs.AnswerText.{finishes_text, delivery_text, answer_text, step_text, refusal_text}
-use Rattle.rules.specs.Records.{Record, opens, event, unreadable}
+use Rattle.rules.specs.Records.{Record, opens, event, unreadable, record_of}
 use Rattle.rules.specs.Program.{Told, event_record, take_record}
 use Rattle.laws.specs.Tests as tests
 use Rattle.records.specs.Short.{items_kept, short_delivery, short_record}
@@ -75,3 +75,7 @@ short_answers (event (vote identity partition b)) l = refl
 short_answers (event (change k)) l = refl
 short_answers (event (read key st)) l = refl
 short_answers unreadable l = refl
+
+-- So the program answers a line by what was read of it.
+pub read_answers : (line : List ℕ) (r : Record) (l : Option State) → r ≡ short_record (record_of line) → take_record r l ≡ take_record (record_of line) l
+read_answers line r l e = ap (λ (s : Record). take_record s l) e ∙ short_answers (record_of line) l

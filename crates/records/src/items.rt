@@ -41,13 +41,6 @@ impl Keys {
             count: self.count + 1,
         }
     }
-
-    // The keys that are kept.
-    pub fn as_slice(&self) -> &[u32]
-        ensures { result.now ≡ take self.now.count self.now.items }
-    {
-        &self.items[..self.count]
-    }
 }
 
 // A key written, and the amount written to it.
@@ -100,22 +93,6 @@ impl Writes {
             count: self.count + 1,
         }
     }
-
-    // The keys that are kept.
-    pub fn keys(&self) -> &[u32]
-        ensures kept { result.now ≡ take self.now.count self.now.keys }
-        ensures all { length result.now ≡ self.now.count }
-    {
-        &self.keys[..self.count]
-    }
-
-    // An amount for each.
-    pub fn amounts(&self) -> &[i64]
-        ensures kept { result.now ≡ take self.now.count self.now.amounts }
-        ensures all { length result.now ≡ self.now.count }
-    {
-        &self.amounts[..self.count]
-    }
 }
 
 // "D identity, partition set, st, reads, writes as key=value"
@@ -133,7 +110,7 @@ impl Delivery {
     pub fn reads(&self) -> &[u32]
         ensures { result.now ≡ take self.now.reads.count self.now.reads.items }
     {
-        self.reads.as_slice()
+        &self.reads.items[..self.reads.count]
     }
 
     // The keys written that are kept.
@@ -141,14 +118,14 @@ impl Delivery {
         ensures kept { result.now ≡ take self.now.writes.count self.now.writes.keys }
         ensures all { length result.now ≡ self.now.writes.count }
     {
-        self.writes.keys()
+        &self.writes.keys[..self.writes.count]
     }
 
-    // An amount for each.
+    // An amount for each of them.
     pub fn amounts(&self) -> &[i64]
         ensures kept { result.now ≡ take self.now.writes.count self.now.writes.amounts }
         ensures all { length result.now ≡ self.now.writes.count }
     {
-        self.writes.amounts()
+        &self.writes.amounts[..self.writes.count]
     }
 }
