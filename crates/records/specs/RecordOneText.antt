@@ -1,7 +1,7 @@
--- A record that was read has no second text, and its numbers are within their limits.
+-- A record that was read has no second text, its numbers are within their limits, and its line is no longer than a line may be.
 use Rattle.std.specs.Prelude.{ℕ, ◌≤◌, true, ◌≡◌, refl, eqb, ltb, length}
 use mathlib.Core.List.{List, [], ◌∷◌}
-use Rattle.std.proofs.Common.{sym, ap, ap₂, subst, ◌∙◌, eqb-true}
+use Rattle.std.proofs.Common.{sym, ap, ap₂, subst, ◌∙◌, eqb-true, ltb-false}
 use Rattle.std.proofs.Math.Option.{Option, none, some}
 use Rattle.rules.specs.Partitions.{Ballot, aye, nay}
 use Rattle.rules.specs.Ledger.{Write}
@@ -38,6 +38,9 @@ unfolding a_write write_text
 write_says bs w h =
     let parts = write_parts_say (split equals bs) w h in
     (sym (join_split equals bs) ∙ ap (join equals) parts.0, parts.1)
+
+pub write_one_text : (bs : List ℕ) (w : Write) → a_write bs ≡ some w → bs ≡ write_text w
+write_one_text bs w h = (write_says bs w h).0
 
 -- A field of one byte.
 ballot_says : (bs : List ℕ) (b : Ballot) → a_ballot bs ≡ some b → bs ≡ ballot_text b
@@ -196,3 +199,12 @@ record_one_text line r h n = sym (join_split tab_byte line) ∙ ap (join tab_byt
 
 pub record_within : (line : List ℕ) (r : Record) → record_of line ≡ r → (r ≡ unreadable → ⊥) → Within r
 record_within line r h n = (line_says line r h n).within
+
+-- Its line is no longer than a line may be.
+line_low : (line : List ℕ) (r : Record) → record_of line ≡ r → (r ≡ unreadable → ⊥) → length line ≤ line_limit
+unfolding record_of
+line_low line r h n =
+    tests.split (ltb line_limit (length line)) (λ q. absurd (n (sym (rw q at h)))) (λ q. ltb-false line_limit (length line) q)
+
+pub record_length : (line : List ℕ) (r : Record) → record_of line ≡ r → (r ≡ unreadable → ⊥) → length (record_text r) ≤ line_limit
+record_length line r h n = subst (λ (l : List ℕ). length l ≤ line_limit) (record_one_text line r h n) (line_low line r h n)

@@ -32,7 +32,7 @@ write_lacks : (c : ℕ) (w : Write) → (c ≡ equals → ⊥) → member c (dec
 unfolding write_text
 write_lacks c w n key value = join_lacks c equals (decimal w.key ∷ signed_text w.value ∷ []) n (key, (value, tt))
 
-write_read_back : (w : Write) → WithinWrite w → a_write (write_text w) ≡ some w
+pub write_read_back : (w : Write) → WithinWrite w → a_write (write_text w) ≡ some w
 unfolding a_write write_text write_parts
 write_read_back w h =
     let parts = split_join equals (decimal w.key) (signed_text w.value ∷ [])
