@@ -32,7 +32,7 @@ joined : (b : ℕ) (part : List ℕ) (parts : List (List ℕ)) → is_one (part 
 joined b part [] = refl
 joined b part (first ∷ rest) = refl
 
-several : (c : ℕ) (bs part : List ℕ) → is_one (part ∷ split c bs) ≡ false
+pub several : (c : ℕ) (bs part : List ℕ) → is_one (part ∷ split c bs) ≡ false
 unfolding split
 several c [] part = refl
 several c (b ∷ bs) part = tests.split (eqb b c) (λ q. rw q) (λ q. rw q (joined b part (split c bs)))

@@ -11,6 +11,7 @@ use Rattle.tables.specs.NewRow.{writes_of}
 use Rattle.records.specs.declared.items.Keys.{Keys}
 use Rattle.records.specs.declared.items.Writes.{Writes}
 use Rattle.records.specs.declared.items.Write as code_write
+use Rattle.records.specs.Short.{items_kept}
 
 abbrev pub kept_keys : Keys → List ℕ
 kept_keys k = take k.count k.items
@@ -34,7 +35,7 @@ abbrev pub write_said : code.Option code_write.Write → Option Write
 write_said None = none
 write_said (Some w) = some (one_write w)
 
--- One write more: behind the others; and what a store leaves, where there is room for it.
+-- One write more, behind the others.
 write_at : List ℕ → List ℤ → ℕ → Write
 write_at keys amounts j = record { key = get_or keys j 0; value = get_or amounts j (pos 0) }
 
@@ -60,8 +61,9 @@ length_writes : (keys : List ℕ) (amounts : List ℤ) → length (writes_of key
 unfolding writes_of
 length_writes keys amounts = length_tab (length keys) (λ j. record { key = get_or keys j 0; value = get_or amounts j (pos 0) })
 
-pub write_stored : (keys : List ℕ) (amounts : List ℤ) (n m k : ℕ) (a z : ℤ) → length keys ≡ 9 → length amounts ≡ 9 → n < 9 → m ≡ n + 1 → z ≡ a
-    → writes_of (take m (set keys n k)) (take m (set amounts n z)) ≡ take 9 (writes_of (take n keys) (take n amounts) ++ (record { key = k; value = a } ∷ []))
+-- What a store leaves, where there is room for it; and where there is none.
+pub write_stored : (keys : List ℕ) (amounts : List ℤ) (n m k : ℕ) (a z : ℤ) → length keys ≡ items_kept → length amounts ≡ items_kept → n < items_kept → m ≡ n + 1 → z ≡ a
+    → writes_of (take m (set keys n k)) (take m (set amounts n z)) ≡ take items_kept (writes_of (take n keys) (take n amounts) ++ (record { key = k; value = a } ∷ []))
 write_stored keys amounts n m k a z nine nine_amounts room e same =
     let front = length-take-le n keys (omega arith) in
     let front_amounts = length-take-le n amounts (omega arith) in
@@ -72,9 +74,8 @@ write_stored keys amounts n m k a z nine nine_amounts room e same =
     rw (one, same, take-suc-set keys n k (omega arith), take-suc-set amounts n a (omega arith), take_all 9 (kept ++ w ∷ []) whole)
     (behind (take n keys) (take n amounts) k a (omega arith))
 
--- where there is none
-pub write_left : (keys : List ℕ) (amounts : List ℤ) (n : ℕ) (w : Write) → length keys ≡ 9 → n ≡ 9
-    → writes_of (take n keys) (take n amounts) ≡ take 9 (writes_of (take n keys) (take n amounts) ++ w ∷ [])
+pub write_left : (keys : List ℕ) (amounts : List ℤ) (n : ℕ) (w : Write) → length keys ≡ items_kept → n ≡ items_kept
+    → writes_of (take n keys) (take n amounts) ≡ take items_kept (writes_of (take n keys) (take n amounts) ++ w ∷ [])
 write_left keys amounts n w nine full =
     let front = length-take-le n keys (omega arith) in
     let kept = writes_of (take n keys) (take n amounts) in
@@ -85,4 +86,5 @@ pub no_writes : (amounts : List ℤ) → writes_of [] amounts ≡ []
 unfolding writes_of tab
 no_writes amounts = refl
 
+-- What `Writes` goes by.
 pub ruleset writes = (write_stored, write_left, no_writes, to_z-of_z)

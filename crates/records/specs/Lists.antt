@@ -7,7 +7,7 @@ use Rattle.rules.specs.Bytes.{split, comma}
 use Rattle.rules.specs.Records.{and_then, each_part, is_dash, list_of}
 use Rattle.laws.specs.Tests as tests
 use Rattle.numerals.specs.Parts.{until, split_at_find, split_no_find}
-use Rattle.records.specs.Short.{items}
+use Rattle.records.specs.Short.{items_kept}
 
 -- The parts from a place on. There are none behind the last one's end.
 unfoldable pub parts_from : ℕ → List ℕ → List (List ℕ)
@@ -40,26 +40,26 @@ module _ {A : Type 0} where
   -- The first nine items.
   abbrev pub short_list : Option (List A) → Option (List A)
   short_list none = none
-  short_list (some xs) = some (take items xs)
+  short_list (some xs) = some (take items_kept xs)
 
   -- What was kept, and then what is to come, or nothing if that can't be read.
   abbrev pub onto : List A → Option (List A) → Option (List A)
   onto kept none = none
-  onto kept (some xs) = some (take items (kept ++ xs))
+  onto kept (some xs) = some (take items_kept (kept ++ xs))
 
   onto_nothing : (o : Option (List A)) → short_list o ≡ onto [] o
   onto_nothing none = refl
   onto_nothing (some xs) = refl
 
-  onto_one : (kept : List A) (x : A) (o : Option (List A)) → onto kept (and_then o (λ xs. some (x ∷ xs))) ≡ onto (take items (kept ++ x ∷ [])) o
+  onto_one : (kept : List A) (x : A) (o : Option (List A)) → onto kept (and_then o (λ xs. some (x ∷ xs))) ≡ onto (take items_kept (kept ++ x ∷ [])) o
   onto_one kept x none = refl
   onto_one kept x (some xs) =
-      ap some (ap (take items) (sym (append_assoc kept (x ∷ []) xs)) ∙ sym (take_front items (kept ++ x ∷ []) xs))
+      ap some (ap (take items_kept) (sym (append_assoc kept (x ∷ []) xs)) ∙ sym (take_front items_kept (kept ++ x ∷ []) xs))
 
 -- A list's readers: the loop stands at a place and has kept these items.
 module _ {A : Type 0} where
   pub record Keeping (f : List ℕ → Option A) (s : List ℕ) (kept : List A) (from : ℕ) : Type 0 where
-    pub few : length kept ≤ items
+    pub few : length kept ≤ items_kept
     pub same : short_list (each_part f (split comma s)) ≡ onto kept (each_part f (parts_from from s))
 
   pub keeping_start : (f : List ℕ → Option A) (s : List ℕ) (kept : List A) → kept ≡ [] → Keeping f s kept 0
@@ -74,7 +74,7 @@ module _ {A : Type 0} where
   unfolding each_part
   keeping_end f s kept from k h =
       let few = k.few in
-      k.same ∙ rw (parts_end s from h, append-nil kept, take_all items kept few)
+      k.same ∙ rw (parts_end s from h, append-nil kept, take_all items_kept kept few)
 
   module _ (f : List ℕ → Option A) (s : List ℕ) (kept : List A) (from e : ℕ) (k : Keeping f s kept from) (h : from ≤ length s)
       (end : (e ≡ from + until comma (drop from s)) × (e ≤ length s)) where
@@ -82,12 +82,12 @@ module _ {A : Type 0} where
     here = k.same ∙ ap (λ (parts : List (List ℕ)). onto kept (each_part f parts)) (parts_here s from e h end)
 
     -- an item that is read; one that can't be
-    pub keeping_step : (x : A) (kept_now : List A) → some x ≡ f (take (e - from) (drop from s)) → kept_now ≡ take items (kept ++ x ∷ [])
+    pub keeping_step : (x : A) (kept_now : List A) → some x ≡ f (take (e - from) (drop from s)) → kept_now ≡ take items_kept (kept ++ x ∷ [])
         → Keeping f s kept_now (e + 1)
     unfolding each_part
     keeping_step x kept_now read now =
         record {
-          few = rw now (omega (arith, length-take items (kept ++ x ∷ [])));
+          few = rw now (omega (arith, length-take items_kept (kept ++ x ∷ [])));
           same = here ∙ rw (sym read, now) (onto_one kept x (each_part f (parts_from (e + 1) s)));
         }
 

@@ -5,8 +5,8 @@ use Rattle.rules.specs.Events.{Event, delivery, vote, change, read}
 use Rattle.rules.specs.Records.{Record, opens, event, unreadable}
 
 -- Eight are the most that a delivery may read or write: nine are too many, whatever follows.
-abbrev pub items : ℕ
-items = 9
+abbrev pub items_kept : ℕ
+items_kept = 9
 
 abbrev pub short_delivery : Transaction → Transaction
 short_delivery t =
@@ -14,8 +14,8 @@ short_delivery t =
       identity = t.identity;
       partitions = t.partitions;
       st = t.st;
-      reads = take items t.reads;
-      writes = take items t.writes;
+      reads = take items_kept t.reads;
+      writes = take items_kept t.writes;
     }
 
 abbrev pub short_event : Event → Event

@@ -30,10 +30,7 @@ pub fn read_field(s: &[u8], limit: u32) -> Option<u32>
 pub fn is_dash(s: &[u8]) -> bool
     ensures { result ≡ text.is_dash s.now }
 {
-    match s {
-        [b'-'] => true,
-        _ => false,
-    }
+    matches!(s, [b'-'])
 }
 
 // "Y or N"

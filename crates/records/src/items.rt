@@ -1,7 +1,9 @@
 // The items of a delivery's lists, as they are read.
-ghost use Rattle.std.specs.Prelude.{◌≤◌, ◌≡◌, length, take, ◌++◌, [], ◌∷◌};
+ghost use Rattle.std.specs.Prelude.{◌≤◌, ◌++◌, [], ◌∷◌, ◌≡◌, length, take};
+ghost use Rattle.records.specs.Short.{items_kept};
 
-// So many items of a list are kept: eight are the most that a delivery may have, and a ninth shows that there are more. What stands behind it is read and checked, and left out.
+// So many items of a list are kept: eight are the most that a delivery may read or write, and a ninth shows that there are more. What stands behind it is read and
+// checked like the others, and left out.
 pub const ITEMS: usize = 9;
 
 // The keys of a list.
@@ -9,13 +11,15 @@ pub const ITEMS: usize = 9;
 pub struct Keys {
     pub items: [u32; ITEMS],
     pub count: usize,
-    pub ghost few: { count ≤ 9 },
+    pub ghost few: { count ≤ items_kept },
 }
 
 impl Keys {
+    ghost use Rattle.records.specs.Kept.{kept_keys};
+
     // No keys.
     pub(crate) fn none() -> Keys
-        ensures { take result.count result.items ≡ [] }
+        ensures { kept_keys result ≡ [] }
     {
         Keys {
             items: [0; ITEMS],
@@ -25,7 +29,7 @@ impl Keys {
 
     // One key more, where there is room for it.
     pub(crate) fn with(self, key: u32) -> Keys
-        ensures { take result.count result.items ≡ take 9 (take self.count self.items ++ (key ∷ [])) }
+        ensures { kept_keys result ≡ take items_kept (kept_keys self ++ (key ∷ [])) }
     {
         if self.count == ITEMS {
             return self;
@@ -36,13 +40,6 @@ impl Keys {
             items,
             count: self.count + 1,
         }
-    }
-
-    // The keys that are kept.
-    pub fn as_slice(&self) -> &[u32]
-        ensures { result.now ≡ take self.now.count self.now.items }
-    {
-        &self.items[..self.count]
     }
 }
 
@@ -59,7 +56,7 @@ pub struct Writes {
     pub keys: [u32; ITEMS],
     pub amounts: [i64; ITEMS],
     pub count: usize,
-    pub ghost few: { count ≤ 9 },
+    pub ghost few: { count ≤ items_kept },
 }
 
 impl Writes {
@@ -78,10 +75,10 @@ impl Writes {
         }
     }
 
-    #[tactic(auto, using(crate::specs::Kept::writes))]
     // One write more, where there is room for it.
+    #[tactic(auto, using(crate::specs::Kept::writes))]
     pub(crate) fn with(self, write: Write) -> Writes
-        ensures { kept_writes result ≡ take 9 (kept_writes self ++ (one_write write ∷ [])) }
+        ensures { kept_writes result ≡ take items_kept (kept_writes self ++ (one_write write ∷ [])) }
     {
         if self.count == ITEMS {
             return self;
@@ -95,22 +92,6 @@ impl Writes {
             amounts,
             count: self.count + 1,
         }
-    }
-
-    // The keys that are kept.
-    pub fn keys(&self) -> &[u32]
-        ensures kept { result.now ≡ take self.now.count self.now.keys }
-        ensures all { length result.now ≡ self.now.count }
-    {
-        &self.keys[..self.count]
-    }
-
-    // An amount for each.
-    pub fn amounts(&self) -> &[i64]
-        ensures kept { result.now ≡ take self.now.count self.now.amounts }
-        ensures all { length result.now ≡ self.now.count }
-    {
-        &self.amounts[..self.count]
     }
 }
 
@@ -129,7 +110,7 @@ impl Delivery {
     pub fn reads(&self) -> &[u32]
         ensures { result.now ≡ take self.now.reads.count self.now.reads.items }
     {
-        self.reads.as_slice()
+        &self.reads.items[..self.reads.count]
     }
 
     // The keys written that are kept.
@@ -137,14 +118,14 @@ impl Delivery {
         ensures kept { result.now ≡ take self.now.writes.count self.now.writes.keys }
         ensures all { length result.now ≡ self.now.writes.count }
     {
-        self.writes.keys()
+        &self.writes.keys[..self.writes.count]
     }
 
-    // An amount for each.
+    // An amount for each of them.
     pub fn amounts(&self) -> &[i64]
         ensures kept { result.now ≡ take self.now.writes.count self.now.writes.amounts }
         ensures all { length result.now ≡ self.now.writes.count }
     {
-        self.writes.amounts()
+        &self.writes.amounts[..self.writes.count]
     }
 }

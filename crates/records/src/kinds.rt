@@ -1,4 +1,4 @@
-// The kinds of record, each by its fields: first where they end, then what they are. Each field is a part of the line, handed on from where it starts.
+// The kinds of record, each by its fields: where the first, the second .. ends, and then what they are. "Each field is a part of the line, handed on from where it starts."
 ghost use Rattle.std.specs.Prelude.{◌≤◌, ◌≡◌, length, drop};
 ghost use Rattle.rules.specs.Bytes.{split, tab_byte};
 ghost use Rattle.rules.specs.Records.{opening_fields, delivery_fields, vote_fields, change_fields, read_fields};
@@ -19,14 +19,14 @@ pub fn read_opening(line: &[u8], from: usize) -> Option<Record>
     requires { from ≤ length line.now }
     ensures { record_said result ≡ by_rule opening_fields (split tab_byte (drop from line.now)) }
 {
-    let a = part_end(line, from, TAB)?;
-    let b = part_end(line, a + 1, TAB)?;
-    if !is_last(line, b + 1, TAB) {
+    let first = part_end(line, from, TAB)?;
+    let second = part_end(line, first + 1, TAB)?;
+    if !is_last(line, second + 1, TAB) {
         return None;
     }
-    let partitions = read_field(&line[from..a], BYTE)?;
-    let own = read_field(&line[a + 1..b], BYTE)?;
-    let k = read_field(&line[b + 1..], KEY)?;
+    let partitions = read_field(&line[from..first], BYTE)?;
+    let own = read_field(&line[first + 1..second], BYTE)?;
+    let k = read_field(&line[second + 1..], KEY)?;
     Some(Record::Opening(Sizes { partitions, own, k }))
 }
 
@@ -36,18 +36,18 @@ pub fn read_delivery(line: &[u8], from: usize) -> Option<Record>
     requires { from ≤ length line.now }
     ensures { record_said result ≡ by_rule delivery_fields (split tab_byte (drop from line.now)) }
 {
-    let a = part_end(line, from, TAB)?;
-    let b = part_end(line, a + 1, TAB)?;
-    let c = part_end(line, b + 1, TAB)?;
-    let d = part_end(line, c + 1, TAB)?;
-    if !is_last(line, d + 1, TAB) {
+    let first = part_end(line, from, TAB)?;
+    let second = part_end(line, first + 1, TAB)?;
+    let third = part_end(line, second + 1, TAB)?;
+    let fourth = part_end(line, third + 1, TAB)?;
+    if !is_last(line, fourth + 1, TAB) {
         return None;
     }
-    let identity = read_field(&line[from..a], WORD)?;
-    let set = read_field(&line[a + 1..b], BYTE)?;
-    let st = read_field(&line[b + 1..c], WORD)?;
-    let reads = read_keys(&line[c + 1..d])?;
-    let writes = read_writes(&line[d + 1..])?;
+    let identity = read_field(&line[from..first], WORD)?;
+    let set = read_field(&line[first + 1..second], BYTE)?;
+    let st = read_field(&line[second + 1..third], WORD)?;
+    let reads = read_keys(&line[third + 1..fourth])?;
+    let writes = read_writes(&line[fourth + 1..])?;
     Some(Record::Delivery(Delivery {
         identity,
         set,
@@ -63,14 +63,14 @@ pub fn read_vote(line: &[u8], from: usize) -> Option<Record>
     requires { from ≤ length line.now }
     ensures { record_said result ≡ by_rule vote_fields (split tab_byte (drop from line.now)) }
 {
-    let a = part_end(line, from, TAB)?;
-    let b = part_end(line, a + 1, TAB)?;
-    if !is_last(line, b + 1, TAB) {
+    let first = part_end(line, from, TAB)?;
+    let second = part_end(line, first + 1, TAB)?;
+    if !is_last(line, second + 1, TAB) {
         return None;
     }
-    let identity = read_field(&line[from..a], WORD)?;
-    let partition = read_field(&line[a + 1..b], BYTE)?;
-    let ballot = read_ballot(&line[b + 1..])?;
+    let identity = read_field(&line[from..first], WORD)?;
+    let partition = read_field(&line[first + 1..second], BYTE)?;
+    let ballot = read_ballot(&line[second + 1..])?;
     Some(Record::Vote {
         identity,
         partition,
@@ -97,11 +97,11 @@ pub fn read_read(line: &[u8], from: usize) -> Option<Record>
     requires { from ≤ length line.now }
     ensures { record_said result ≡ by_rule read_fields (split tab_byte (drop from line.now)) }
 {
-    let a = part_end(line, from, TAB)?;
-    if !is_last(line, a + 1, TAB) {
+    let first = part_end(line, from, TAB)?;
+    if !is_last(line, first + 1, TAB) {
         return None;
     }
-    let key = read_field(&line[from..a], KEY)?;
-    let st = read_snapshot(&line[a + 1..])?;
+    let key = read_field(&line[from..first], KEY)?;
+    let st = read_snapshot(&line[first + 1..])?;
     Some(Record::Read { key, st })
 }
