@@ -4,3 +4,4 @@ pub mod Reads
 pub mod Finishes
 pub mod Named
 pub mod Texts
+pub mod Lengths
