@@ -6,6 +6,7 @@ use Rattle.rules.specs.Closing.{Outcome, version, aborts}
 use Rattle.rules.specs.AnswerText.{outcome_text}
 use Rattle.laws.specs.Cuts.{put_nothing}
 use Rattle.numerals.specs.Writing.{Wrote, wrote_both, wrote_as, wrote_length}
+use Rattle.answers.specs.declared.TheConstants.{HEAD}
 
 abbrev pub outcome_of : ℕ → Outcome
 outcome_of v = cond (eqb v 0) aborts (version v)
@@ -46,13 +47,13 @@ unfolding words_text
 told_start o at words = record { wrote = record { text = sym (put_nothing o at); place = omega arith }; ends = omega arith; same = refl }
 
 module _ {o o' : List ℕ} {at i p : ℕ} {words : List ℕ} (k : Told o at words i o' p) where
-  pub told_room : (n : ℕ) → i < n → at + 24 * n + 64 ≤ length o → p + 64 ≤ length o'
+  pub told_room : (n : ℕ) → i < n → at + 24 * n + HEAD ≤ length o → p + HEAD ≤ length o'
   told_room n low room =
       let ends = k.ends in
       let same = k.same in
       omega arith
 
-  pub told_step : {o'' : List ℕ} {q : ℕ} (n : ℕ) → i < n → at + 24 * n + 64 ≤ length o → Wrote o' p (entry_text words i) o'' q → q ≤ p + 24
+  pub told_step : {o'' : List ℕ} {q : ℕ} (n : ℕ) → i < n → at + 24 * n + HEAD ≤ length o → Wrote o' p (entry_text words i) o'' q → q ≤ p + 24
       → Told o at words (i + 1) o'' q
   told_step {o''} {q} n low room w more =
       let ends = k.ends in

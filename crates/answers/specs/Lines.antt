@@ -6,6 +6,7 @@ use Rattle.rules.specs.Bytes.{decimal, tab_byte}
 use Rattle.rules.specs.AnswerText.{field, end}
 use Rattle.numerals.specs.Decimal.{decimal_length}
 use Rattle.numerals.specs.Writing.{Wrote, wrote_both, wrote_as, wrote_length}
+use Rattle.answers.specs.declared.TheConstants.{HEAD}
 
 -- Numbers, each behind a tab, in front of more.
 abbrev pub numbers_text : List ℕ → List ℕ → List ℕ
@@ -43,7 +44,7 @@ pub record Front (o : List ℕ) (at letter : ℕ) (ns : List ℕ) (i : ℕ) (o' 
   pub ends : p ≤ at + 1 + 11 * i
   pub same : length o' ≡ length o
 
-pub front_start : {o o' : List ℕ} {at letter p : ℕ} (ns : List ℕ) → at + 64 ≤ length o → Wrote o at (letter ∷ []) o' p → Front o at letter ns 0 o' p
+pub front_start : {o o' : List ℕ} {at letter p : ℕ} (ns : List ℕ) → at + HEAD ≤ length o → Wrote o at (letter ∷ []) o' p → Front o at letter ns 0 o' p
 front_start ns room w =
     let place = w.place in
     record { wrote = w; ends = omega arith; same = wrote_length (omega arith) w }
@@ -56,13 +57,13 @@ one_more ns i low =
     ∙ ap (λ (l : List ℕ). numbers_text l []) (sym (rw add-one (take-suc ns i 0 low)))))
 
 module _ {o o' : List ℕ} {at letter i p : ℕ} {ns : List ℕ} (k : Front o at letter ns i o' p) where
-  pub front_room : at + 64 ≤ length o → i < length ns → length ns ≤ 3 → p + 21 ≤ length o'
+  pub front_room : at + HEAD ≤ length o → i < length ns → length ns ≤ 3 → p + 21 ≤ length o'
   front_room room low few =
       let ends = k.ends in
       let same = k.same in
       omega arith
 
-  pub front_step : {o'' : List ℕ} {q : ℕ} → at + 64 ≤ length o → i < length ns → length ns ≤ 3 → Wrote o' p (tab_byte ∷ decimal (get_or ns i 0)) o'' q
+  pub front_step : {o'' : List ℕ} {q : ℕ} → at + HEAD ≤ length o → i < length ns → length ns ≤ 3 → Wrote o' p (tab_byte ∷ decimal (get_or ns i 0)) o'' q
       → q ≤ p + 11 → Front o at letter ns (i + 1) o'' q
   front_step {o''} {q} room low few w more =
       let ends = k.ends in
@@ -82,7 +83,7 @@ module _ {o o' : List ℕ} {at letter i p : ℕ} {ns : List ℕ} (k : Front o at
   front_ends most = let ends = k.ends in omega arith
 
 -- The newline behind them ends the line.
-pub line_wrote : {o o' o'' : List ℕ} {at letter p q : ℕ} (ns : List ℕ) → length ns ≤ 3 → at + 64 ≤ length o → p ≤ at + 1 + 11 * length ns
+pub line_wrote : {o o' o'' : List ℕ} {at letter p q : ℕ} (ns : List ℕ) → length ns ≤ 3 → at + HEAD ≤ length o → p ≤ at + 1 + 11 * length ns
     → Wrote o at (letter ∷ numbers_text ns []) o' p → Wrote o' p end o'' q → Wrote o at (letter ∷ numbers_text ns end) o'' q
 line_wrote {o} {o'} {o''} {at} {letter} ns few room ends front newline =
     let place = front.place in

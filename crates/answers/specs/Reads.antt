@@ -13,6 +13,7 @@ use Rattle.engine.specs.declared.answers.Reading.{Reading}
 use Rattle.engine.specs.declared.answers.Reading.TheVariants.{Refused, Value}
 use Rattle.engine.specs.Answers.{reading_said}
 use Rattle.answers.specs.Lines.{numbers_text, numbers_onto}
+use Rattle.answers.specs.declared.TheConstants.{HEAD}
 
 -- A refusal's number, or 0.
 abbrev pub number_said : Reading → ℕ
@@ -26,7 +27,7 @@ unfolding read_text refusal_text
 turned_wrote key answer r turned same w = rw (turned, ← (same ∙ ap number_said turned)) w
 
 -- The value behind its numbers and a tab, and the newline.
-module _ {o front tab signed : List ℕ} {at p q r : ℕ} (key st : ℕ) (z : ℤ) (small : mag z < 2 ^ 63) (room : at + 64 ≤ length o) (ends : p ≤ at + 1 + 11 * 2)
+module _ {o front tab signed : List ℕ} {at p q r : ℕ} (key st : ℕ) (z : ℤ) (small : mag z < 2 ^ 63) (room : at + HEAD ≤ length o) (ends : p ≤ at + 1 + 11 * 2)
     (numbers : Wrote o at (82 ∷ numbers_text (key ∷ st ∷ []) []) front p) (behind : Wrote front p (tab_byte ∷ []) tab q)
     (amount : Wrote tab q (signed_text z) signed r) where
   front_length : length front ≡ length o
@@ -53,7 +54,7 @@ module _ {o front tab signed : List ℕ} {at p q r : ℕ} (key st : ℕ) (z : �
       let digits = signed_text_fits z small in
       omega arith
 
-  pub value_ends : {o' : List ℕ} {last : ℕ} → Wrote signed r end o' last → last ≤ at + 64
+  pub value_ends : {o' : List ℕ} {last : ℕ} → Wrote signed r end o' last → last ≤ at + HEAD
   value_ends newline =
       let place = behind.place in
       let written = amount.place in
