@@ -3,7 +3,7 @@
 use Rattle.std.specs.Prelude.{ℕ, ◌+◌, ◌*◌, ◌^◌, ◌≤◌, ◌<◌, List, [], ◌∷◌, ◌++◌, ℤ, length}
 use Rattle.std.proofs.Common.{arith, length-append}
 use Rattle.std.specs.Int.Signed.{mag}
-use Rattle.rules.specs.Bytes.{decimal, signed_text, tab_byte}
+use Rattle.rules.specs.Bytes.{decimal_text, signed_text, tab_byte}
 use Rattle.rules.specs.Closing.{Outcome, version, aborts, Finish}
 use Rattle.rules.specs.Events.{Event, delivery, vote, change, read, Answer, refused, waits, aborted, voted, changed, value, Step}
 use Rattle.rules.specs.AnswerText.{field, end, refusal_text, opened_text, outcome_text, finishes_text, delivery_text, vote_text, change_text, read_text, answer_text, step_text}
@@ -17,7 +17,7 @@ Word n = n < 2 ^ 32
 field_length : (n : ℕ) (rest : List ℕ) → Word n → length (field n rest) ≤ 11 + length rest
 field_length n rest h =
     let digits = decimal_fits_word n h in
-    let long = length-append (decimal n) rest in
+    let long = length-append (decimal_text n) rest in
     omega arith
 
 -- One number; two; three.

@@ -2,7 +2,7 @@
 use Rattle.std.specs.Prelude.{ℕ, ◌+◌, ◌*◌, ◌^◌, ◌≤◌, ◌<◌, List, [], ◌∷◌, ◌++◌, ◌≡◌, refl, length, take, get_or}
 use Rattle.std.proofs.Common.{append_assoc, append-nil, sym, ap, ◌∙◌, arith, add-one, take_all}
 use Rattle.std.proofs.Math.Seq.{take-suc}
-use Rattle.rules.specs.Bytes.{decimal, tab_byte}
+use Rattle.rules.specs.Bytes.{decimal_text, tab_byte}
 use Rattle.rules.specs.AnswerText.{field, end}
 use Rattle.numerals.specs.Decimal.{decimal_length}
 use Rattle.numerals.specs.Writing.{Wrote, wrote_both, wrote_as, wrote_length}
@@ -16,22 +16,22 @@ numbers_text (n ∷ ns) rest = field n (numbers_text ns rest)
 -- More behind them; one number more.
 pub numbers_onto : (ns rest : List ℕ) → numbers_text ns [] ++ rest ≡ numbers_text ns rest
 numbers_onto [] rest = refl
-numbers_onto (n ∷ ns) rest = rw (append_assoc (decimal n) (numbers_text ns []) rest, numbers_onto ns rest)
+numbers_onto (n ∷ ns) rest = rw (append_assoc (decimal_text n) (numbers_text ns []) rest, numbers_onto ns rest)
 
 pub numbers_more : (ns : List ℕ) (n : ℕ) (rest : List ℕ) → numbers_text (ns ++ n ∷ []) rest ≡ numbers_text ns (field n rest)
 numbers_more [] n rest = refl
 numbers_more (m ∷ ns) n rest = rw (numbers_more ns n rest)
 
 -- A word of 32 bits has at most 10 digits.
-pub decimal_fits_word : (n : ℕ) → n < 2 ^ 32 → length (decimal n) ≤ 10
+pub decimal_fits_word : (n : ℕ) → n < 2 ^ 32 → length (decimal_text n) ≤ 10
 decimal_fits_word n h = decimal_length 9 n (omega arith)
 
 module _ {o o' o'' : List ℕ} {at p q : ℕ} where
   -- a field is a tab and the number behind it
-  pub field_wrote : (n : ℕ) → at + 21 ≤ length o → Wrote o at (tab_byte ∷ []) o' p → Wrote o' p (decimal n) o'' q → Wrote o at (tab_byte ∷ decimal n) o'' q
+  pub field_wrote : (n : ℕ) → at + 21 ≤ length o → Wrote o at (tab_byte ∷ []) o' p → Wrote o' p (decimal_text n) o'' q → Wrote o at (tab_byte ∷ decimal_text n) o'' q
   field_wrote n room tab number = wrote_both (omega arith) tab number
 
-  pub field_ends : (n : ℕ) → n < 2 ^ 32 → Wrote o at (tab_byte ∷ []) o' p → Wrote o' p (decimal n) o'' q → q ≤ at + 11
+  pub field_ends : (n : ℕ) → n < 2 ^ 32 → Wrote o at (tab_byte ∷ []) o' p → Wrote o' p (decimal_text n) o'' q → q ≤ at + 11
   field_ends n low tab number =
       let digits = decimal_fits_word n low in
       let place = tab.place in
@@ -49,10 +49,10 @@ front_start ns room w =
     let place = w.place in
     record { wrote = w; ends = omega arith; same = wrote_length (omega arith) w }
 
-one_more : (ns : List ℕ) (i : ℕ) → i < length ns → numbers_text (take i ns) [] ++ (tab_byte ∷ decimal (get_or ns i 0)) ≡ numbers_text (take (i + 1) ns) []
+one_more : (ns : List ℕ) (i : ℕ) → i < length ns → numbers_text (take i ns) [] ++ (tab_byte ∷ decimal_text (get_or ns i 0)) ≡ numbers_text (take (i + 1) ns) []
 one_more ns i low =
-    numbers_onto (take i ns) (tab_byte ∷ decimal (get_or ns i 0))
-    ∙ (ap (λ (l : List ℕ). numbers_text (take i ns) (tab_byte ∷ l)) (sym (append-nil (decimal (get_or ns i 0))))
+    numbers_onto (take i ns) (tab_byte ∷ decimal_text (get_or ns i 0))
+    ∙ (ap (λ (l : List ℕ). numbers_text (take i ns) (tab_byte ∷ l)) (sym (append-nil (decimal_text (get_or ns i 0))))
     ∙ (sym (numbers_more (take i ns) (get_or ns i 0) [])
     ∙ ap (λ (l : List ℕ). numbers_text l []) (sym (rw add-one (take-suc ns i 0 low)))))
 
@@ -63,7 +63,7 @@ module _ {o o' : List ℕ} {at letter i p : ℕ} {ns : List ℕ} (k : Front o at
       let same = k.same in
       omega arith
 
-  pub front_step : {o'' : List ℕ} {q : ℕ} → at + HEAD ≤ length o → i < length ns → length ns ≤ 3 → Wrote o' p (tab_byte ∷ decimal (get_or ns i 0)) o'' q
+  pub front_step : {o'' : List ℕ} {q : ℕ} → at + HEAD ≤ length o → i < length ns → length ns ≤ 3 → Wrote o' p (tab_byte ∷ decimal_text (get_or ns i 0)) o'' q
       → q ≤ p + 11 → Front o at letter ns (i + 1) o'' q
   front_step {o''} {q} room low few w more =
       let ends = k.ends in

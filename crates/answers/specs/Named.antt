@@ -2,7 +2,7 @@
 use Rattle.std.specs.Prelude.{ℕ, ◌+◌, Bool, true, not, List, [], ◌∷◌, ◌≡◌, refl, eqb}
 use Rattle.std.proofs.Common.{ne_eqb, arith}
 use Rattle.std.proofs.Math.Option.{Option, none, some}
-use Rattle.rules.specs.Lists.{all}
+use Rattle.std.specs.List.{list_all}
 use Rattle.rules.specs.Ledger.{Entry, Clock, Books, State}
 use Rattle.rules.specs.Closing.{ready, commits, Outcome, version, aborts, Finish, finish, books_after, close}
 use Rattle.rules.specs.Events.{Event, Step, accepted, closing}
@@ -18,7 +18,7 @@ abbrev pub named_version : Finish → Bool
 named_version f = named_outcome f.outcome
 
 abbrev pub all_named : List Finish → Bool
-all_named fs = all named_version fs
+all_named fs = list_all named_version fs
 
 -- A commit's version is one above an SC.
 finish_named : (c : Clock) (e : Entry) (b : Books) → named_version (finish c e b) ≡ true

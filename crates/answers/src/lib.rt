@@ -2,7 +2,7 @@
 #![tactic(auto)]
 
 ghost use Rattle.std.specs.Prelude.{[], ◌∷◌, ◌≡◌, ◌+◌, ◌*◌, ◌≤◌, length};
-ghost use Rattle.rules.specs.Bytes.{decimal, tab_byte};
+ghost use Rattle.rules.specs.Bytes.{decimal_text, tab_byte};
 ghost use Rattle.rules.specs.Events.{value};
 ghost use Rattle.rules.specs.AnswerText.{end, refusal_text, opened_text, outcome_text, delivery_text, vote_text, change_text, read_text};
 ghost use Rattle.numerals.specs.Writing.{Wrote};
@@ -25,7 +25,7 @@ pub const LONGEST: usize = 1024;
 // A number behind a tab.
 fn write_field(out: &mut [u8], at: usize, n: u32) -> usize
     requires { at + 21 ≤ length out.old }
-    ensures wrote { Wrote out.old at (tab_byte ∷ decimal n) out.new result }
+    ensures wrote { Wrote out.old at (tab_byte ∷ decimal_text n) out.new result }
     ensures ends { result ≤ at + 11 }
 {
     let number = write_byte(out, at, b'\t');

@@ -1,12 +1,12 @@
 -- The kinds of record: too few fields, too many, and the right number of them, each read by what it is. Of a delivery the first nine items of its lists are kept.
 use Rattle.std.specs.Prelude.{ℕ, false, List, [], ◌∷◌, ◌≡◌, refl, Some, None}
 use Rattle.std.specs.declared.option.Option as code
-use Rattle.std.proofs.Math.Option.{Option, none, some}
+use Rattle.std.proofs.Math.Option.{Option, none, some, bind}
 use Rattle.rules.specs.Partitions.{Ballot}
 use Rattle.rules.specs.Ledger.{Write}
 use Rattle.rules.specs.Events.{delivery, vote, change, read, Snapshot}
 use Rattle.rules.specs.Bytes.{number}
-use Rattle.rules.specs.Records.{Record, opens, event, unreadable, and_then, or_unreadable, byte_limit, key_limit, word_limit, a_ballot, a_snapshot, a_write, list_of, opening_fields, delivery_fields, vote_fields, change_fields, read_fields}
+use Rattle.rules.specs.Records.{Record, opens, event, unreadable, or_unreadable, byte_limit, key_limit, word_limit, a_ballot, a_snapshot, a_write, list_of, opening_fields, delivery_fields, vote_fields, change_fields, read_fields}
 use Rattle.laws.specs.Options.{given}
 use Rattle.records.specs.Short.{short_record}
 use Rattle.records.specs.Ends.{is_one}
@@ -24,7 +24,7 @@ opening_of (Some p) (Some own) None = unreadable
 opening_of (Some p) (Some own) (Some k) = opens p own k
 
 opening_read : (p own k : Option ℕ)
-    → short_record (or_unreadable (and_then p (λ p. and_then own (λ own. and_then k (λ k. some (opens p own k)))))) ≡ opening_of (given p) (given own) (given k)
+    → short_record (or_unreadable (bind p (λ p. bind own (λ own. bind k (λ k. some (opens p own k)))))) ≡ opening_of (given p) (given own) (given k)
 unfolding short_record
 opening_read none own k = refl
 opening_read (some p) none k = refl
@@ -63,7 +63,7 @@ delivery_of (Some i) (Some p) (Some st) (some reads) (some writes) =
     event (delivery (record { identity = i; partitions = p; st = st; reads = reads; writes = writes }))
 
 delivery_read : (i p st : Option ℕ) (reads : Option (List ℕ)) (writes : Option (List Write))
-    → short_record (or_unreadable (and_then i (λ identity. and_then p (λ partitions. and_then st (λ st. and_then reads (λ reads. and_then writes (λ writes.
+    → short_record (or_unreadable (bind i (λ identity. bind p (λ partitions. bind st (λ st. bind reads (λ reads. bind writes (λ writes.
     some (event (delivery (record { identity = identity; partitions = partitions; st = st; reads = reads; writes = writes }))))))))))
     ≡ delivery_of (given i) (given p) (given st) (short_list reads) (short_list writes)
 unfolding short_record
@@ -114,7 +114,7 @@ vote_of (Some i) (Some p) none = unreadable
 vote_of (Some i) (Some p) (some b) = event (vote i p b)
 
 vote_read : (i p : Option ℕ) (b : Option Ballot)
-    → short_record (or_unreadable (and_then i (λ i. and_then p (λ p. and_then b (λ b. some (event (vote i p b))))))) ≡ vote_of (given i) (given p) b
+    → short_record (or_unreadable (bind i (λ i. bind p (λ p. bind b (λ b. some (event (vote i p b))))))) ≡ vote_of (given i) (given p) b
 unfolding short_record
 vote_read none p b = refl
 vote_read (some i) none b = refl
@@ -146,7 +146,7 @@ abbrev pub change_of : code.Option ℕ → Record
 change_of None = unreadable
 change_of (Some k) = event (change k)
 
-change_read : (k : Option ℕ) → short_record (or_unreadable (and_then k (λ k. some (event (change k))))) ≡ change_of (given k)
+change_read : (k : Option ℕ) → short_record (or_unreadable (bind k (λ k. some (event (change k))))) ≡ change_of (given k)
 unfolding short_record
 change_read none = refl
 change_read (some k) = refl
@@ -169,7 +169,7 @@ read_of None st = unreadable
 read_of (Some key) none = unreadable
 read_of (Some key) (some st) = event (read key st)
 
-read_read : (key : Option ℕ) (st : Option Snapshot) → short_record (or_unreadable (and_then key (λ key. and_then st (λ st. some (event (read key st)))))) ≡ read_of (given key) st
+read_read : (key : Option ℕ) (st : Option Snapshot) → short_record (or_unreadable (bind key (λ key. bind st (λ st. some (event (read key st)))))) ≡ read_of (given key) st
 unfolding short_record
 read_read none st = refl
 read_read (some key) none = refl

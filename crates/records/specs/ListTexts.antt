@@ -4,10 +4,11 @@ use mathlib.Core.List.Memᴰ
 use mathlib.Core.List.{List, [], ◌∷◌, Memᴰ}
 use Rattle.std.proofs.Common.{⊎_elim, sym, ap, ap₂, subst, ◌∙◌, arith, eqb-true}
 use Rattle.std.proofs.lemmas.Bool.{false≢true}
-use Rattle.std.proofs.Math.Option.{Option, none, some}
-use Rattle.rules.specs.Lists.{all, member}
+use Rattle.std.proofs.Math.Option.{Option, none, some, bind}
+use Rattle.rules.specs.Lists.{member}
+use Rattle.std.specs.List.{list_all}
 use Rattle.rules.specs.Bytes.{comma, minus, is_digit, split}
-use Rattle.rules.specs.Records.{and_then, each_part, is_dash, list_of}
+use Rattle.rules.specs.Records.{each_part, is_dash, list_of}
 use Rattle.laws.specs.Tests as tests
 use Rattle.laws.specs.Tests.{and_left}
 use Rattle.numerals.specs.Decimal.{digit_range}
@@ -19,7 +20,7 @@ use Rattle.records.specs.RecordTexts.{list_text}
 pub nothing : {A P : Type 0} (x : A) → none ≡ some x → P
 nothing x h = let z : ◌≡◌ {A = ℕ} 0 1 = cc in absurd (omega arith)
 
-pub chained : {A B G : Type 0} (o : Option A) (g : A → Option B) (y : B) → and_then o g ≡ some y → ((x : A) → o ≡ some x → g x ≡ some y → G) → G
+pub chained : {A B G : Type 0} (o : Option A) (g : A → Option B) (y : B) → bind o g ≡ some y → ((x : A) → o ≡ some x → g x ≡ some y → G) → G
 chained none g y h k = nothing y h
 chained (some x) g y h k = k x refl h
 
@@ -27,9 +28,9 @@ chained (some x) g y h k = k x refl h
 abbrev pub Begins : List ℕ → Type 0
 Begins l = is_digit (get_or l 0 0) ≡ true
 
-pub digits_begin : (l : List ℕ) → 0 < length l → all is_digit l ≡ true → Begins l
+pub digits_begin : (l : List ℕ) → 0 < length l → list_all is_digit l ≡ true → Begins l
 digits_begin [] l h = absurd (omega arith)
-digits_begin (b ∷ bs) l h = and_left (is_digit b) (all is_digit bs) h
+digits_begin (b ∷ bs) l h = and_left (is_digit b) (list_all is_digit bs) h
 
 pub joined_begins : (c : ℕ) (part : List ℕ) (parts : List (List ℕ)) → Begins part → Begins (join c (part ∷ parts))
 unfolding is_digit
@@ -85,7 +86,7 @@ module _ {A : Type 0} (f : List ℕ → Option A) (text : A → List ℕ) (P : A
   each_one_text [] [] h = (refl, λ x m. absurd (Memᴰ.not-nil m))
   each_one_text [] (x ∷ xs) h = let z : ◌≡◌ {A = ℕ} 0 1 = cc in absurd (omega arith)
   each_one_text (part ∷ parts) xs h =
-      chained (f part) (λ x. and_then (each_part f parts) (λ xs. some (x ∷ xs))) xs h
+      chained (f part) (λ x. bind (each_part f parts) (λ xs. some (x ∷ xs))) xs h
       (λ x first h. chained (each_part f parts) (λ xs. some (x ∷ xs)) xs h
       (λ rest more h. let same : x ∷ rest ≡ xs = cc in
       let here = one part x first in

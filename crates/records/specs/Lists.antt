@@ -2,9 +2,9 @@
 use Rattle.std.specs.Prelude.{ℕ, zero, suc, ◌+◌, ◌-◌, ◌≤◌, ◌<◌, true, false, cond, List, [], ◌∷◌, ◌++◌, ◌≡◌, refl, ltb, length, take, drop}
 use Rattle.std.proofs.Common.{sym, ap, ◌∙◌, arith, lt-ltb, le-ltb, ltb-true, ltb-false, append_assoc, append-nil, length-drop, take_all}
 use Rattle.std.proofs.lemmas.List.{length-take}
-use Rattle.std.proofs.Math.Option.{Option, none, some}
+use Rattle.std.proofs.Math.Option.{Option, none, some, bind}
 use Rattle.rules.specs.Bytes.{split, comma}
-use Rattle.rules.specs.Records.{and_then, each_part, is_dash, list_of}
+use Rattle.rules.specs.Records.{each_part, is_dash, list_of}
 use Rattle.laws.specs.Tests as tests
 use Rattle.numerals.specs.Parts.{until, split_at_find, split_no_find}
 use Rattle.records.specs.Short.{items_kept}
@@ -51,7 +51,7 @@ module _ {A : Type 0} where
   onto_nothing none = refl
   onto_nothing (some xs) = refl
 
-  onto_one : (kept : List A) (x : A) (o : Option (List A)) → onto kept (and_then o (λ xs. some (x ∷ xs))) ≡ onto (take items_kept (kept ++ x ∷ [])) o
+  onto_one : (kept : List A) (x : A) (o : Option (List A)) → onto kept (bind o (λ xs. some (x ∷ xs))) ≡ onto (take items_kept (kept ++ x ∷ [])) o
   onto_one kept x none = refl
   onto_one kept x (some xs) =
       ap some (ap (take items_kept) (sym (append_assoc kept (x ∷ []) xs)) ∙ sym (take_front items_kept (kept ++ x ∷ []) xs))

@@ -2,12 +2,12 @@
 use Rattle.std.specs.Prelude.{ℕ, ◌≤◌, true, ◌≡◌, refl, eqb, ltb, length}
 use mathlib.Core.List.{List, [], ◌∷◌}
 use Rattle.std.proofs.Common.{sym, ap, ap₂, subst, ◌∙◌, eqb-true, ltb-false}
-use Rattle.std.proofs.Math.Option.{Option, none, some}
+use Rattle.std.proofs.Math.Option.{Option, none, some, bind}
 use Rattle.rules.specs.Partitions.{Ballot, aye, nay}
 use Rattle.rules.specs.Ledger.{Write}
 use Rattle.rules.specs.Events.{delivery, vote, change, read, Snapshot, at, newest}
-use Rattle.rules.specs.Bytes.{split, number, signed, tab_byte, equals, decimal, signed_text}
-use Rattle.rules.specs.Records.{Record, opens, event, unreadable, and_then, or_unreadable, byte_limit, key_limit, word_limit, line_limit, write_parts, a_write, is_dash, a_ballot, at_st, a_snapshot, list_of, opening_fields, delivery_fields, vote_fields, change_fields, read_fields, by_letter, by_fields, record_of}
+use Rattle.rules.specs.Bytes.{split, number, signed, tab_byte, equals, decimal_text, signed_text}
+use Rattle.rules.specs.Records.{Record, opens, event, unreadable, or_unreadable, byte_limit, key_limit, word_limit, line_limit, write_parts, a_write, is_dash, a_ballot, at_st, a_snapshot, list_of, opening_fields, delivery_fields, vote_fields, change_fields, read_fields, by_letter, by_fields, record_of}
 use Rattle.laws.specs.Tests as tests
 use Rattle.numerals.specs.Texts.{numeral, number_one_text}
 use Rattle.numerals.specs.Amounts.{signed_one_text, signed_low}
@@ -16,20 +16,20 @@ use Rattle.records.specs.RecordTexts.{write_text, ballot_text, snapshot_text, re
 use Rattle.records.specs.ListTexts.{nothing, chained, dash_text, list_one_text}
 
 -- A number within its limit, a write.
-number_says : (limit : ℕ) (bs : List ℕ) (v : ℕ) → number limit bs ≡ some v → (bs ≡ decimal v) × (v ≤ limit)
+number_says : (limit : ℕ) (bs : List ℕ) (v : ℕ) → number limit bs ≡ some v → (bs ≡ decimal_text v) × (v ≤ limit)
 number_says limit bs v h = (number_one_text limit v bs h, (numeral limit bs v h).low)
 
-write_parts_say : (parts : List (List ℕ)) (w : Write) → write_parts parts ≡ some w → (parts ≡ decimal w.key ∷ signed_text w.value ∷ []) × WithinWrite w
+write_parts_say : (parts : List (List ℕ)) (w : Write) → write_parts parts ≡ some w → (parts ≡ decimal_text w.key ∷ signed_text w.value ∷ []) × WithinWrite w
 unfolding write_parts
 write_parts_say [] w h = nothing w h
 write_parts_say (k ∷ []) w h = nothing w h
 write_parts_say (k ∷ v ∷ []) w h =
-    chained (number key_limit k) (λ a. and_then (signed v) (λ b. some (record { key = a; value = b }))) w h
+    chained (number key_limit k) (λ a. bind (signed v) (λ b. some (record { key = a; value = b }))) w h
     (λ a key h. chained (signed v) (λ b. some (record { key = a; value = b })) w h
     (λ b value h. let first = number_says key_limit k a key in
     let read : Write = record { key = a; value = b } in
     let same : read ≡ w = cc in
-    subst (λ (w : Write). (k ∷ v ∷ [] ≡ decimal w.key ∷ signed_text w.value ∷ []) × WithinWrite w) same
+    subst (λ (w : Write). (k ∷ v ∷ [] ≡ decimal_text w.key ∷ signed_text w.value ∷ []) × WithinWrite w) same
     (ap₂ (λ (x y : List ℕ). x ∷ y ∷ []) first.0 (signed_one_text v b value), (first.1, signed_low v b value))))
 write_parts_say (k ∷ v ∷ more ∷ rest) w h = nothing w h
 
@@ -89,8 +89,8 @@ opening_says [] r h = nothing r h
 opening_says (p ∷ []) r h = nothing r h
 opening_says (p ∷ o ∷ []) r h = nothing r h
 opening_says (p ∷ o ∷ k ∷ []) r h =
-    chained (number byte_limit p) (λ a. and_then (number byte_limit o) (λ b. and_then (number key_limit k) (λ c. some (opens a b c)))) r h
-    (λ a partitions h. chained (number byte_limit o) (λ b. and_then (number key_limit k) (λ c. some (opens a b c))) r h
+    chained (number byte_limit p) (λ a. bind (number byte_limit o) (λ b. bind (number key_limit k) (λ c. some (opens a b c)))) r h
+    (λ a partitions h. chained (number byte_limit o) (λ b. bind (number key_limit k) (λ c. some (opens a b c))) r h
     (λ b own h. chained (number key_limit k) (λ c. some (opens a b c)) r h
     (λ c threshold h. let first = number_says byte_limit p a partitions in
     let second = number_says byte_limit o b own in
@@ -109,18 +109,18 @@ delivery_says (i ∷ p ∷ []) r h = nothing r h
 delivery_says (i ∷ p ∷ s ∷ []) r h = nothing r h
 delivery_says (i ∷ p ∷ s ∷ k ∷ []) r h = nothing r h
 delivery_says (i ∷ p ∷ s ∷ k ∷ w ∷ []) r h =
-    chained (number word_limit i) (λ a. and_then (number byte_limit p) (λ b. and_then (number word_limit s) (λ c.
-    and_then (list_of (number key_limit) k) (λ d. and_then (list_of a_write w) (λ e. some (delivered a b c d e)))))) r h
-    (λ a identity h. chained (number byte_limit p) (λ b. and_then (number word_limit s) (λ c.
-    and_then (list_of (number key_limit) k) (λ d. and_then (list_of a_write w) (λ e. some (delivered a b c d e))))) r h
+    chained (number word_limit i) (λ a. bind (number byte_limit p) (λ b. bind (number word_limit s) (λ c.
+    bind (list_of (number key_limit) k) (λ d. bind (list_of a_write w) (λ e. some (delivered a b c d e)))))) r h
+    (λ a identity h. chained (number byte_limit p) (λ b. bind (number word_limit s) (λ c.
+    bind (list_of (number key_limit) k) (λ d. bind (list_of a_write w) (λ e. some (delivered a b c d e))))) r h
     (λ b partitions h. chained (number word_limit s) (λ c.
-    and_then (list_of (number key_limit) k) (λ d. and_then (list_of a_write w) (λ e. some (delivered a b c d e)))) r h
-    (λ c st h. chained (list_of (number key_limit) k) (λ d. and_then (list_of a_write w) (λ e. some (delivered a b c d e))) r h
+    bind (list_of (number key_limit) k) (λ d. bind (list_of a_write w) (λ e. some (delivered a b c d e)))) r h
+    (λ c st h. chained (list_of (number key_limit) k) (λ d. bind (list_of a_write w) (λ e. some (delivered a b c d e))) r h
     (λ d reads h. chained (list_of a_write w) (λ e. some (delivered a b c d e)) r h
     (λ e writes h. let first = number_says word_limit i a identity in
     let second = number_says byte_limit p b partitions in
     let third = number_says word_limit s c st in
-    let fourth = list_one_text (number key_limit) decimal (λ v. v ≤ key_limit) (number_says key_limit) k d reads in
+    let fourth = list_one_text (number key_limit) decimal_text (λ v. v ≤ key_limit) (number_says key_limit) k d reads in
     let fifth = list_one_text a_write write_text WithinWrite write_says w e writes in
     says_this ((68 ∷ []) ∷ i ∷ p ∷ s ∷ k ∷ w ∷ []) (delivered a b c d e) r h (rw (first.0, second.0, third.0, fourth.0, fifth.0))
     (record { identity = first.1; partitions = second.1; st = third.1; reads = fourth.1; writes = fifth.1 }))))))
@@ -132,8 +132,8 @@ vote_says [] r h = nothing r h
 vote_says (i ∷ []) r h = nothing r h
 vote_says (i ∷ p ∷ []) r h = nothing r h
 vote_says (i ∷ p ∷ y ∷ []) r h =
-    chained (number word_limit i) (λ a. and_then (number byte_limit p) (λ b. and_then (a_ballot y) (λ c. some (event (vote a b c))))) r h
-    (λ a identity h. chained (number byte_limit p) (λ b. and_then (a_ballot y) (λ c. some (event (vote a b c)))) r h
+    chained (number word_limit i) (λ a. bind (number byte_limit p) (λ b. bind (a_ballot y) (λ c. some (event (vote a b c))))) r h
+    (λ a identity h. chained (number byte_limit p) (λ b. bind (a_ballot y) (λ c. some (event (vote a b c)))) r h
     (λ b partition h. chained (a_ballot y) (λ c. some (event (vote a b c))) r h
     (λ c ballot h. let first = number_says word_limit i a identity in
     let second = number_says byte_limit p b partition in
@@ -154,7 +154,7 @@ unfolding read_fields record_fields
 read_says [] r h = nothing r h
 read_says (k ∷ []) r h = nothing r h
 read_says (k ∷ s ∷ []) r h =
-    chained (number key_limit k) (λ a. and_then (a_snapshot s) (λ b. some (event (read a b)))) r h
+    chained (number key_limit k) (λ a. bind (a_snapshot s) (λ b. some (event (read a b)))) r h
     (λ a key h. chained (a_snapshot s) (λ b. some (event (read a b))) r h
     (λ b st h. let first = number_says key_limit k a key in
     let second = snapshot_says s b st in

@@ -5,7 +5,7 @@ use Rattle.std.specs.Int.Signed.{mag}
 use Rattle.rules.specs.Partitions.{Ballot, aye, nay}
 use Rattle.rules.specs.Ledger.{Write, Transaction}
 use Rattle.rules.specs.Events.{delivery, vote, change, read, Snapshot, at, newest}
-use Rattle.rules.specs.Bytes.{tab_byte, comma, minus, equals, decimal, signed_text}
+use Rattle.rules.specs.Bytes.{tab_byte, comma, minus, equals, decimal_text, signed_text}
 use Rattle.rules.specs.Records.{Record, opens, event, unreadable, byte_limit, key_limit, word_limit}
 use Rattle.records.specs.Joined.{join}
 
@@ -16,7 +16,7 @@ list_text (part ∷ parts) = join comma (part ∷ parts)
 
 -- "writes as key=value"
 unfoldable pub write_text : Write → List ℕ
-write_text w = join equals (decimal w.key ∷ signed_text w.value ∷ [])
+write_text w = join equals (decimal_text w.key ∷ signed_text w.value ∷ [])
 
 -- "Y or N"
 abbrev pub ballot_text : Ballot → List ℕ
@@ -25,17 +25,17 @@ ballot_text nay = 78 ∷ []
 
 -- "st (`-` means SC)"
 abbrev pub snapshot_text : Snapshot → List ℕ
-snapshot_text (at st) = decimal st
+snapshot_text (at st) = decimal_text st
 snapshot_text newest = minus ∷ []
 
 -- "O partitions, own, k; D identity, partition set, st, reads, writes [..]; V identity, partition, Y or N; K k; R key, st". No line says what can't be read.
 unfoldable pub record_fields : Record → List (List ℕ)
-record_fields (opens partitions own k) = (79 ∷ []) ∷ decimal partitions ∷ decimal own ∷ decimal k ∷ []
+record_fields (opens partitions own k) = (79 ∷ []) ∷ decimal_text partitions ∷ decimal_text own ∷ decimal_text k ∷ []
 record_fields (event (delivery t)) =
-    (68 ∷ []) ∷ decimal t.identity ∷ decimal t.partitions ∷ decimal t.st ∷ list_text (map decimal t.reads) ∷ list_text (map write_text t.writes) ∷ []
-record_fields (event (vote identity partition b)) = (86 ∷ []) ∷ decimal identity ∷ decimal partition ∷ ballot_text b ∷ []
-record_fields (event (change k)) = (75 ∷ []) ∷ decimal k ∷ []
-record_fields (event (read key st)) = (82 ∷ []) ∷ decimal key ∷ snapshot_text st ∷ []
+    (68 ∷ []) ∷ decimal_text t.identity ∷ decimal_text t.partitions ∷ decimal_text t.st ∷ list_text (map decimal_text t.reads) ∷ list_text (map write_text t.writes) ∷ []
+record_fields (event (vote identity partition b)) = (86 ∷ []) ∷ decimal_text identity ∷ decimal_text partition ∷ ballot_text b ∷ []
+record_fields (event (change k)) = (75 ∷ []) ∷ decimal_text k ∷ []
+record_fields (event (read key st)) = (82 ∷ []) ∷ decimal_text key ∷ snapshot_text st ∷ []
 record_fields unreadable = []
 
 -- "fields parted by one tab"

@@ -1,10 +1,10 @@
 -- "writes as key=value": a key, and behind the `=` a value and no more.
 use Rattle.std.specs.Prelude.{ℕ, false, List, [], ◌∷◌, ◌≡◌, refl, ℤ, Some, None}
 use Rattle.std.specs.declared.option.Option as code
-use Rattle.std.proofs.Math.Option.{Option, none, some}
+use Rattle.std.proofs.Math.Option.{Option, none, some, bind}
 use Rattle.rules.specs.Ledger.{Write}
 use Rattle.rules.specs.Bytes.{split, number, signed, equals}
-use Rattle.rules.specs.Records.{and_then, key_limit, write_parts, a_write}
+use Rattle.rules.specs.Records.{key_limit, write_parts, a_write}
 use Rattle.laws.specs.Options.{given}
 use Rattle.records.specs.Ends.{is_one}
 
@@ -13,7 +13,7 @@ write_of None v = none
 write_of (Some k) None = none
 write_of (Some k) (Some v) = some (record { key = k; value = v })
 
-both : (k : Option ℕ) (v : Option ℤ) → and_then k (λ key. and_then v (λ value. some (record { key = key; value = value }))) ≡ write_of (given k) (given v)
+both : (k : Option ℕ) (v : Option ℤ) → bind k (λ key. bind v (λ value. some (record { key = key; value = value }))) ≡ write_of (given k) (given v)
 both none v = refl
 both (some k) none = refl
 both (some k) (some v) = refl
