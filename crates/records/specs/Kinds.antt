@@ -25,7 +25,7 @@ opening_of (Some p) (Some own) (Some k) = opens p own k
 
 opening_read : (p own k : Option ℕ)
     → short_record (or_unreadable (bind p (λ p. bind own (λ own. bind k (λ k. some (opens p own k)))))) ≡ opening_of (given p) (given own) (given k)
-unfolding short_record
+unfolding short_record bind
 opening_read none own k = refl
 opening_read (some p) none k = refl
 opening_read (some p) (some own) none = refl
@@ -66,7 +66,7 @@ delivery_read : (i p st : Option ℕ) (reads : Option (List ℕ)) (writes : Opti
     → short_record (or_unreadable (bind i (λ identity. bind p (λ partitions. bind st (λ st. bind reads (λ reads. bind writes (λ writes.
     some (event (delivery (record { identity = identity; partitions = partitions; st = st; reads = reads; writes = writes }))))))))))
     ≡ delivery_of (given i) (given p) (given st) (short_list reads) (short_list writes)
-unfolding short_record
+unfolding short_record bind
 delivery_read none p st reads writes = refl
 delivery_read (some i) none st reads writes = refl
 delivery_read (some i) (some p) none reads writes = refl
@@ -115,7 +115,7 @@ vote_of (Some i) (Some p) (some b) = event (vote i p b)
 
 vote_read : (i p : Option ℕ) (b : Option Ballot)
     → short_record (or_unreadable (bind i (λ i. bind p (λ p. bind b (λ b. some (event (vote i p b))))))) ≡ vote_of (given i) (given p) b
-unfolding short_record
+unfolding short_record bind
 vote_read none p b = refl
 vote_read (some i) none b = refl
 vote_read (some i) (some p) none = refl
@@ -147,7 +147,7 @@ change_of None = unreadable
 change_of (Some k) = event (change k)
 
 change_read : (k : Option ℕ) → short_record (or_unreadable (bind k (λ k. some (event (change k))))) ≡ change_of (given k)
-unfolding short_record
+unfolding short_record bind
 change_read none = refl
 change_read (some k) = refl
 
@@ -170,7 +170,7 @@ read_of (Some key) none = unreadable
 read_of (Some key) (some st) = event (read key st)
 
 read_read : (key : Option ℕ) (st : Option Snapshot) → short_record (or_unreadable (bind key (λ key. bind st (λ st. some (event (read key st)))))) ≡ read_of (given key) st
-unfolding short_record
+unfolding short_record bind
 read_read none st = refl
 read_read (some key) none = refl
 read_read (some key) (some st) = refl

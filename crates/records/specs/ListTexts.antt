@@ -21,6 +21,7 @@ pub nothing : {A P : Type 0} (x : A) → none ≡ some x → P
 nothing x h = let z : ◌≡◌ {A = ℕ} 0 1 = cc in absurd (omega arith)
 
 pub chained : {A B G : Type 0} (o : Option A) (g : A → Option B) (y : B) → bind o g ≡ some y → ((x : A) → o ≡ some x → g x ≡ some y → G) → G
+unfolding bind
 chained none g y h k = nothing y h
 chained (some x) g y h k = k x refl h
 
@@ -51,7 +52,7 @@ module _ {A : Type 0} (f : List ℕ → Option A) (text : A → List ℕ) where
   Items xs = (x : A) → Memᴰ x xs → Item x
 
   each_read_back : (xs : List A) → Items xs → each_part f (map text xs) ≡ some xs
-  unfolding each_part
+  unfolding each_part bind
   each_read_back [] k = refl
   each_read_back (x ∷ xs) k = rw ((k x (Memᴰ.head refl)).back, each_read_back xs (λ y m. k y (Memᴰ.tail m)))
 

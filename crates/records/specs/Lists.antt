@@ -52,6 +52,7 @@ module _ {A : Type 0} where
   onto_nothing (some xs) = refl
 
   onto_one : (kept : List A) (x : A) (o : Option (List A)) → onto kept (bind o (λ xs. some (x ∷ xs))) ≡ onto (take items_kept (kept ++ x ∷ [])) o
+  unfolding bind
   onto_one kept x none = refl
   onto_one kept x (some xs) =
       ap some (ap (take items_kept) (sym (append_assoc kept (x ∷ []) xs)) ∙ sym (take_front items_kept (kept ++ x ∷ []) xs))
@@ -84,7 +85,7 @@ module _ {A : Type 0} where
     -- an item that is read; one that can't be
     pub keeping_step : (x : A) (kept_now : List A) → some x ≡ f (take (e - from) (drop from s)) → kept_now ≡ take items_kept (kept ++ x ∷ [])
         → Keeping f s kept_now (e + 1)
-    unfolding each_part
+    unfolding each_part bind
     keeping_step x kept_now read now =
         record {
           few = rw now (omega (arith, length-take items_kept (kept ++ x ∷ [])));
@@ -92,7 +93,7 @@ module _ {A : Type 0} where
         }
 
     pub keeping_stops : none ≡ f (take (e - from) (drop from s)) → short_list (each_part f (split comma s)) ≡ none
-    unfolding each_part
+    unfolding each_part bind
     keeping_stops read = here ∙ rw (sym read)
 
   -- "`-` for an empty list"

@@ -2,7 +2,7 @@
 use Rattle.std.specs.Prelude.{ℕ, ◌≤◌, false, ◌≡◌, refl, map, length}
 use mathlib.Core.List.{List, [], ◌∷◌}
 use Rattle.std.proofs.Common.{arith, le-ltb}
-use Rattle.std.proofs.Math.Option.{some}
+use Rattle.std.proofs.Math.Option.{some, bind}
 use Rattle.rules.specs.Lists.{member}
 use Rattle.rules.specs.Partitions.{aye, nay}
 use Rattle.rules.specs.Ledger.{Write}
@@ -33,7 +33,7 @@ unfolding write_text
 write_lacks c w n key value = join_lacks c equals (decimal_text w.key ∷ signed_text w.value ∷ []) n (key, (value, tt))
 
 pub write_read_back : (w : Write) → WithinWrite w → a_write (write_text w) ≡ some w
-unfolding a_write write_text write_parts
+unfolding a_write write_text write_parts bind
 write_read_back w h =
     let parts = split_join equals (decimal_text w.key) (signed_text w.value ∷ [])
     (decimal_absent equals w.key equals_no_digit, (signed_text_absent equals w.value equals_no_digit (λ e. omega arith), tt)) in
@@ -56,7 +56,7 @@ snapshot_read_back newest h = refl
 
 -- The fields.
 fields_read_back : (r : Record) → Within r → (r ≡ unreadable → ⊥) → by_fields (record_fields r) ≡ some r
-unfolding by_fields by_letter record_fields opening_fields delivery_fields vote_fields change_fields read_fields a_ballot
+unfolding by_fields by_letter record_fields opening_fields delivery_fields vote_fields change_fields read_fields a_ballot bind
 fields_read_back (opens partitions own k) h n =
     rw (number_read_back partitions byte_limit h.0, number_read_back own byte_limit h.1, number_read_back k key_limit h.2)
 fields_read_back (event (delivery t)) h n =

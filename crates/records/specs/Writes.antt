@@ -14,6 +14,7 @@ write_of (Some k) None = none
 write_of (Some k) (Some v) = some (record { key = k; value = v })
 
 both : (k : Option ℕ) (v : Option ℤ) → bind k (λ key. bind v (λ value. some (record { key = key; value = value }))) ≡ write_of (given k) (given v)
+unfolding bind
 both none v = refl
 both (some k) none = refl
 both (some k) (some v) = refl
