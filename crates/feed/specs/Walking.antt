@@ -1,6 +1,6 @@
 -- The walk over the lines of a chunk: what was taken so far, and what is left to take, is what the definition takes.
 use Rattle.std.specs.Prelude.{ℕ, ◌+◌, ◌-◌, ◌≤◌, ◌<◌, Bool, true, false, ◌||◌, List, [], ◌∷◌, ◌++◌, ◌≡◌, refl, length, take, drop, Ok, Err}
-use Rattle.std.proofs.Common.{Result, leb-true, sym, ap, ap₂, ◌∙◌, arith, append_assoc, length-drop}
+use Rattle.std.proofs.Common.{leb-false, Result, leb-true, sym, ap, ap₂, ◌∙◌, arith, append_assoc, length-drop}
 use Rattle.rules.specs.Bytes.{split, newline}
 use Rattle.laws.specs.Tests as tests
 use Rattle.laws.specs.Cuts.{put_nothing}
@@ -163,6 +163,7 @@ pub record Stopped (w : List ℕ) (p : Standing) (m : Memory) (o : List ℕ) (st
   pub walk : Walk w p m o stop.place m' o'
   pub short : stop.full ≡ true → (at_end : Bool)
       → lines_taken at_end (length o - stop.place.at) (split newline (drop stop.place.from w)) stop.place.standing m' ≡ stopped true stop.place.standing m'
+  pub no_room : stop.full ≡ true → length o < stop.place.at + LONGEST
   pub tail : stop.full ≡ false → split newline (drop stop.place.from w) ≡ drop stop.place.from w ∷ []
 
 -- Where the next line ends.
@@ -180,6 +181,10 @@ walk_short w p m o place m' o' e full k end inside no_room is =
       short = λ q at_end.
           ap (λ (ls : List (List ℕ)). lines_taken at_end (length o - place.at) ls place.standing m') (split_at_find newline w place.from e end.found inside)
           ∙ lines_stop at_end (length o - place.at) _ _ place.standing m' (some_part newline (drop (e + 1) w)) no_room;
+      no_room = λ q.
+          let room = k.room in
+          let low = leb-false LONGEST (length o - place.at) (tests.or_right place.standing.skipping (has_room (length o - place.at)) no_room) in
+          omega arith;
       tail = λ q. tests.never full is q;
     }
 
@@ -188,7 +193,7 @@ pub walk_tail : (w : List ℕ) (p : Standing) (m : Memory) (o : List ℕ) (place
     → Walk w p m o place m' o' → EndAt w place.from e → length w ≤ e → full ≡ false
     → Stopped w p m o (record { place = place; full = full }) m' o'
 walk_tail w p m o place m' o' e full k end beyond is =
-    record { walk = k; short = λ q. tests.never full q is; tail = λ q. split_no_find newline w place.from e end.found beyond }
+    record { walk = k; short = λ q. tests.never full q is; no_room = λ q. tests.never full q is; tail = λ q. split_no_find newline w place.from e end.found beyond }
 
 -- A line that was skipped, and one that was answered.
 pub came_skipped : (line : List ℕ) (m : Memory) (o : List ℕ) (next : ℕ) (place : Place) → place.standing.skipping ≡ true → (place.known ≡ true → Usable m.book m.sums)
