@@ -53,6 +53,7 @@ pub record Walk (w : List ℕ) (p : Standing) (m : Memory) (o : List ℕ) (place
   pub wrote : Wrote o 0 text o' place.at
   pub low : place.from ≤ length w
   pub room : place.at ≤ length o
+  pub answers_taken : 0 < place.at → 0 < place.from
   pub list : length m'.finishes ≡ 64
   pub known : place.known ≡ true → Usable m'.book m'.sums
 
@@ -77,6 +78,7 @@ walk_start w place m o from at list knows =
       wrote = record { text = sym (put_nothing o 0); place = at };
       low = omega arith;
       room = omega arith;
+      answers_taken = λ some. omega arith;
       list = list;
       known = knows;
     }
@@ -150,6 +152,7 @@ module _ {w : List ℕ} {p : Standing} {m : Memory} {o : List ℕ} {place : Plac
           wrote = wrote_both (omega arith) k.wrote came.wrote;
           low = rw came.from (omega arith);
           room = given_room place.standing.skipping line place.standing.opened m' place.at next.at (length o) room goes there came.ends;
+          answers_taken = λ some. let from = came.from in omega arith;
           list = rw came.memory (given_list place.standing.skipping line place.standing.opened m' ∙ k.list);
           known = came.known;
         }

@@ -50,7 +50,7 @@ pub fn take_tail(
     ensures within { (place.from ≤ result.taken) × (result.taken ≤ end) × (result.wrote ≤ length out.old) }
     ensures left { result.full ≡ false → end ≤ result.taken + 512 }
     ensures at_end { result.full ≡ false → at_end ≡ true → result.taken ≡ end }
-    ensures full { result.full ≡ true → length out.old < result.wrote + LONGEST }
+    ensures full { result.full ≡ true → (result.wrote ≡ place.at) × (length out.old < place.at + LONGEST) }
     ensures ended { Ended at_end tail.now place (memory book.old sums.old finishes.old) out.old result (memory book.new sums.new finishes.new) out.new }
 {
     if place.standing.skipping {

@@ -58,6 +58,7 @@ pub fn feed(
     ensures left { result.full ≡ false → length input.now ≤ result.taken + 512 }
     ensures at_end { result.full ≡ false → at_end ≡ true → result.taken ≡ length input.now }
     ensures full { result.full ≡ true → length out.old < result.wrote + LONGEST }
+    ensures goes_on { result.full ≡ true → LONGEST ≤ length out.old → 0 < result.taken }
 {
     let known = standing.opened && is_usable(book, sums);
     let mut finishes = [0; 64];
