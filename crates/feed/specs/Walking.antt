@@ -1,6 +1,6 @@
 -- The walk over the lines of a chunk: what was taken so far, and what is left to take, is what the definition takes.
 use Rattle.std.specs.Prelude.{ℕ, ◌+◌, ◌-◌, ◌≤◌, ◌<◌, Bool, true, false, ◌||◌, List, [], ◌∷◌, ◌++◌, ◌≡◌, refl, length, take, drop, Ok, Err}
-use Rattle.std.proofs.Common.{Result, leb-true, sym, ap, ap₂, ◌∙◌, arith, append_assoc, length-drop}
+use Rattle.std.proofs.Common.{leb-false, Result, leb-true, sym, ap, ap₂, ◌∙◌, arith, append_assoc, length-drop}
 use Rattle.rules.specs.Bytes.{split, newline}
 use Rattle.laws.specs.Tests as tests
 use Rattle.laws.specs.Cuts.{put_nothing}
@@ -53,6 +53,7 @@ pub record Walk (w : List ℕ) (p : Standing) (m : Memory) (o : List ℕ) (place
   pub wrote : Wrote o 0 text o' place.at
   pub low : place.from ≤ length w
   pub room : place.at ≤ length o
+  pub answers_taken : 0 < place.at → 0 < place.from
   pub list : length m'.finishes ≡ 64
   pub known : place.known ≡ true → Usable m'.book m'.sums
 
@@ -77,6 +78,7 @@ walk_start w place m o from at list knows =
       wrote = record { text = sym (put_nothing o 0); place = at };
       low = omega arith;
       room = omega arith;
+      answers_taken = λ some. omega arith;
       list = list;
       known = knows;
     }
@@ -150,6 +152,7 @@ module _ {w : List ℕ} {p : Standing} {m : Memory} {o : List ℕ} {place : Plac
           wrote = wrote_both (omega arith) k.wrote came.wrote;
           low = rw came.from (omega arith);
           room = given_room place.standing.skipping line place.standing.opened m' place.at next.at (length o) room goes there came.ends;
+          answers_taken = λ some. let from = came.from in omega arith;
           list = rw came.memory (given_list place.standing.skipping line place.standing.opened m' ∙ k.list);
           known = came.known;
         }
@@ -163,6 +166,7 @@ pub record Stopped (w : List ℕ) (p : Standing) (m : Memory) (o : List ℕ) (st
   pub walk : Walk w p m o stop.place m' o'
   pub short : stop.full ≡ true → (at_end : Bool)
       → lines_taken at_end (length o - stop.place.at) (split newline (drop stop.place.from w)) stop.place.standing m' ≡ stopped true stop.place.standing m'
+  pub no_room : stop.full ≡ true → length o < stop.place.at + LONGEST
   pub tail : stop.full ≡ false → split newline (drop stop.place.from w) ≡ drop stop.place.from w ∷ []
 
 -- Where the next line ends.
@@ -180,6 +184,10 @@ walk_short w p m o place m' o' e full k end inside no_room is =
       short = λ q at_end.
           ap (λ (ls : List (List ℕ)). lines_taken at_end (length o - place.at) ls place.standing m') (split_at_find newline w place.from e end.found inside)
           ∙ lines_stop at_end (length o - place.at) _ _ place.standing m' (some_part newline (drop (e + 1) w)) no_room;
+      no_room = λ q.
+          let room = k.room in
+          let low = leb-false LONGEST (length o - place.at) (tests.or_right place.standing.skipping (has_room (length o - place.at)) no_room) in
+          omega arith;
       tail = λ q. tests.never full is q;
     }
 
@@ -188,7 +196,7 @@ pub walk_tail : (w : List ℕ) (p : Standing) (m : Memory) (o : List ℕ) (place
     → Walk w p m o place m' o' → EndAt w place.from e → length w ≤ e → full ≡ false
     → Stopped w p m o (record { place = place; full = full }) m' o'
 walk_tail w p m o place m' o' e full k end beyond is =
-    record { walk = k; short = λ q. tests.never full q is; tail = λ q. split_no_find newline w place.from e end.found beyond }
+    record { walk = k; short = λ q. tests.never full q is; no_room = λ q. tests.never full q is; tail = λ q. split_no_find newline w place.from e end.found beyond }
 
 -- A line that was skipped, and one that was answered.
 pub came_skipped : (line : List ℕ) (m : Memory) (o : List ℕ) (next : ℕ) (place : Place) → place.standing.skipping ≡ true → (place.known ≡ true → Usable m.book m.sums)

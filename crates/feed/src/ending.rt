@@ -1,5 +1,6 @@
 // What stands behind the last newline of a chunk.
-ghost use Rattle.std.specs.Prelude.{◌≡◌, ◌≤◌, ◌+◌, true, length};
+ghost use Rattle.std.specs.Prelude.{◌≡◌, ◌≤◌, ◌<◌, ◌+◌, true, false, length};
+ghost use Rattle.answers.specs.declared.TheConstants.{LONGEST};
 ghost use Rattle.feed.specs.Feeding.{is_left};
 ghost use Rattle.feed.specs.Answering.{Usable, memory};
 ghost use Rattle.feed.specs.Ending.{Ended};
@@ -46,7 +47,11 @@ pub fn take_tail(
     requires room { place.at ≤ length out.old }
     requires known { place.known ≡ true → Usable book.old sums.old }
     requires list { length finishes.old ≡ 64 }
-    ensures { Ended at_end tail.now place (memory book.old sums.old finishes.old) out.old result (memory book.new sums.new finishes.new) out.new }
+    ensures within { (place.from ≤ result.taken) × (result.taken ≤ end) × (result.wrote ≤ length out.old) }
+    ensures left { result.full ≡ false → end ≤ result.taken + 512 }
+    ensures at_end { result.full ≡ false → at_end ≡ true → result.taken ≡ end }
+    ensures full { result.full ≡ true → (result.wrote ≡ place.at) × (length out.old < place.at + LONGEST) }
+    ensures ended { Ended at_end tail.now place (memory book.old sums.old finishes.old) out.old result (memory book.new sums.new finishes.new) out.new }
 {
     if place.standing.skipping {
         return Fed {

@@ -6,7 +6,8 @@ mod ending;
 mod taking;
 mod walking;
 
-ghost use Rattle.std.specs.Prelude.{◌≡◌, true};
+ghost use Rattle.std.specs.Prelude.{◌≡◌, ◌≤◌, ◌<◌, ◌+◌, true, false, length};
+ghost use Rattle.answers.specs.declared.TheConstants.{LONGEST};
 ghost use Rattle.feed.specs.Feeding.{fed};
 ghost use Rattle.feed.specs.Answering.{Usable};
 ghost use Rattle.feed.specs.Ending.{leaves};
@@ -40,8 +41,9 @@ fn is_usable(book: &[u32], sums: &[i64]) -> bool
     checking::is_sound(Book { words: book }, Sums { amounts: sums })
 }
 
-// Takes the lines of a chunk while the buffer of answers has room for the longest answer of one event. What isn't taken is to be given again, in front of what comes next; at the end
-// of the log, `at_end`, the last line needs no newline.
+// Takes the lines of a chunk while the buffer of answers has room for the longest answer of one event (`answers::LONGEST`). What isn't taken is to be given again, in front of what
+// comes next: where there was room, it is the beginning of one line. At the end of the log, `at_end`, the last line needs no newline, and where there was room nothing is left. Where
+// there was none (`full`), fewer bytes than the longest answer are free behind what was written.
 pub fn feed(
     input: &[u8],
     at_end: bool,
@@ -50,7 +52,13 @@ pub fn feed(
     sums: &mut [i64],
     out: &mut [u8],
 ) -> Fed
-    ensures { leaves result book.new sums.new out.new ≡ fed at_end standing input.now book.old sums.old out.old }
+    ensures fed { leaves result book.new sums.new out.new ≡ fed at_end standing input.now book.old sums.old out.old }
+    ensures taken { result.taken ≤ length input.now }
+    ensures wrote { result.wrote ≤ length out.old }
+    ensures left { result.full ≡ false → length input.now ≤ result.taken + 512 }
+    ensures at_end { result.full ≡ false → at_end ≡ true → result.taken ≡ length input.now }
+    ensures full { result.full ≡ true → length out.old < result.wrote + LONGEST }
+    ensures goes_on { result.full ≡ true → LONGEST ≤ length out.old → 0 < result.taken }
 {
     let known = standing.opened && is_usable(book, sums);
     let mut finishes = [0; 64];
