@@ -4,7 +4,7 @@ use Rattle.std.proofs.Math.Option.{Option, none, some}
 use Rattle.std.proofs.Common.{ap, ap₂, subst}
 use Rattle.rules.specs.Ledger.{State, sizes_fit}
 use Rattle.rules.specs.Events.{Event, Answer}
-use Rattle.rules.specs.Refusals.{step}
+use Rattle.rules.specs.Refusals.{first_of, opening_refusal, step}
 use Rattle.rules.specs.Soundness.{sound}
 use Rattle.rules.specs.Records.{Record, opens, event, unreadable, record_of}
 use Rattle.rules.specs.AnswerText.{answer_text, step_text}
@@ -56,7 +56,7 @@ module _ (partitions own k : ℕ) (m : Memory) (long : Long m) where
 
   opening_tells : Tells (opening_given partitions own k (opened partitions own k m.book m.sums).answer (opened_in partitions own k m))
       (open_record partitions own k none)
-  unfolding open_record
+  unfolding open_record opening_refusal first_of
   opening_tells =
       split (sizes_fit partitions own k)
       (λ q. let means = opened_means partitions own k m.book m.sums long.book long.sums q in
