@@ -8,6 +8,7 @@ use feed::{Standing, feed};
 use std::alloc::{AllocError, Global};
 use std::fs::File;
 use std::io::{Read, Write};
+use std::process::ExitCode;
 use std::{env, io};
 use tables::{BOOK, SUMS};
 
@@ -137,15 +138,35 @@ fn run<R: Read + Drop, W: Write + Drop>(
     )
 }
 
-fn main(rt: HostRuntime) -> io::Result<()> {
+// What a run ended with: an error is told on standard error.
+fn ended(rt: &HostRuntime, name: &str, outcome: io::Result<()>) -> ExitCode {
+    match outcome {
+        Ok(()) => ExitCode::SUCCESS,
+        Err(error) => {
+            let _told = eprintln!(rt; "telvrang: {name}: {error}");
+            ExitCode::FAILURE
+        }
+    }
+}
+
+fn answer_file(rt: &HostRuntime, name: &str) -> io::Result<()> {
+    let file = File::open(rt, name)?;
+    run(rt.alloc(), file, rt.stdout())
+}
+
+fn main(rt: HostRuntime) -> io::Result<ExitCode> {
     let mut words = env::args(&rt)?;
     let _program = words.next();
     let Some(word) = words.next() else {
-        return run(rt.alloc(), rt.stdin(), rt.stdout());
+        return Ok(ended(
+            &rt,
+            "standard input",
+            run(rt.alloc(), rt.stdin(), rt.stdout()),
+        ));
     };
     if word.as_str() == "--help" {
-        return println!(rt; "{HELP}");
+        println!(rt; "{HELP}")?;
+        return Ok(ExitCode::SUCCESS);
     }
-    let file = File::open(&rt, word.as_str())?;
-    run(rt.alloc(), file, rt.stdout())
+    Ok(ended(&rt, word.as_str(), answer_file(&rt, word.as_str())))
 }
