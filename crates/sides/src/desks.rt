@@ -32,7 +32,7 @@ pub const ALL: Lengths = Lengths {
     finishes: FINISHES,
 };
 
-// The public operations.
+// The public operation of an event.
 fn answer(event: &Event, book: &mut [u32], sums: &mut [i64], finishes: &mut [u32]) -> Answer {
     match event {
         Event::Opening(partitions, own, k) => {
@@ -66,7 +66,7 @@ fn answer(event: &Event, book: &mut [u32], sums: &mut [i64], finishes: &mut [u32
 }
 
 impl Desk {
-    // Before opening the tables may hold anything.
+    // What stands in the tables before an opening: anything.
     pub fn of_words(word: u32) -> Desk {
         Desk {
             book: [word; WORDS],
@@ -75,16 +75,13 @@ impl Desk {
         }
     }
 
-    // A word written into the book, which no operation does so. False: there is no such place.
-    pub fn write(&mut self, at: usize, word: u32) -> bool {
-        if WORDS <= at {
-            return false;
-        }
-        self.book[at] = word;
-        true
+    // A word written into the book, as no operation does it. None: there is no such place.
+    pub fn write(&mut self, at: usize, word: u32) -> Option<()> {
+        *self.book.get_mut(at)? = word;
+        Some(())
     }
 
-    // An event on as much of the tables as is lent.
+    // An event on as much of the tables as is lent. Each table by a name of its own: of one value only one field can be lent to be changed.
     pub fn put(&mut self, lent: Lengths, event: &Event) -> Answer {
         let mut book = self.book;
         let mut sums = self.sums;
@@ -109,14 +106,14 @@ impl Desk {
     }
 
     // Every word and amount is the same.
-    pub fn is(&self, other: &Desk) -> bool {
+    pub fn is_same(&self, other: &Desk) -> bool {
         &self.book[..] == &other.book[..]
             && &self.sums[..] == &other.sums[..]
             && &self.finishes[..] == &other.finishes[..]
     }
 
     // What stands behind the tables of a state and behind the first finishes is the same.
-    pub fn is_behind(&self, other: &Desk, finishes: usize) -> bool {
+    pub fn is_same_behind(&self, other: &Desk, finishes: usize) -> bool {
         let from = (2 * finishes.min(32)).min(FINISHES);
         &self.book[BOOK..] == &other.book[BOOK..]
             && &self.sums[SUMS..] == &other.sums[SUMS..]

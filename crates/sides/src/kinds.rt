@@ -37,7 +37,7 @@ pub fn tell(rt: &impl Print, before: &Desk, lent: Lengths, events: &[Event]) -> 
         let answer = desk.put(lent, event);
         if answer.is_refusal() {
             refused = true;
-            changed = changed || !desk.is(before);
+            changed = changed || !desk.is_same(before);
         }
         if 0 < i {
             print!(rt; ",")?;

@@ -27,10 +27,12 @@ impl Stage {
         }
     }
 
-    // An event of which nothing is printed.
+    // An event of which nothing is printed. It must be taken, or the cases would not begin with what they say.
     fn put(&mut self, alloc: Global, text: &str) -> Option<()> {
         let event = event(alloc, text)?;
-        let _ = self.desk.put(self.lent, &event);
+        if self.desk.put(self.lent, &event).is_refusal() {
+            return None;
+        }
         Some(())
     }
 
@@ -51,9 +53,7 @@ impl Stage {
         let (name, words) = text.split_once(' ')?;
         let mut at = place(name)?;
         for word in words.split(',') {
-            if !self.desk.write(at, number(word)?) {
-                return None;
-            }
+            self.desk.write(at, number(word)?)?;
             at = at.checked_add(1)?;
         }
         Some(())
@@ -152,7 +152,7 @@ impl Stage {
             "each" => self.tell_each(rt, rest),
             _ => match self.prepare(alloc, word, rest) {
                 Some(()) => Ok(()),
-                None => println!(rt; "not understood: {line}"),
+                None => println!(rt; "not a line, or refused: {line}"),
             },
         }
     }

@@ -67,7 +67,7 @@ fn finishes(rt: &impl Print, desk: &Desk, count: usize) -> io::Result<()> {
 
 // The end of the line of an event that was taken: nothing that stands behind the tables and the finishes may have changed.
 fn taken(rt: &impl Print, before: &Desk, desk: &Desk, count: usize) -> io::Result<()> {
-    if !desk.is_behind(before, count) {
+    if !desk.is_same_behind(before, count) {
         print!(rt; ", AND WHAT STANDS BEHIND CHANGED")?;
     }
     print!(rt; "; ")?;
@@ -80,7 +80,7 @@ fn finished(rt: &impl Print, before: &Desk, desk: &Desk, count: u32) -> io::Resu
 }
 
 fn kept(before: &Desk, desk: &Desk) -> &'static str {
-    if desk.is(before) {
+    if desk.is_same(before) {
         "nothing changed"
     } else {
         "SOMETHING CHANGED"
