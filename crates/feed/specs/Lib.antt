@@ -7,3 +7,4 @@ pub mod Answering
 pub mod Taking
 pub mod Walking
 pub mod Ending
+pub mod OneAnswer
