@@ -138,15 +138,16 @@ fn run<R: Read + Drop, W: Write + Drop>(
     )
 }
 
-// What a run ended with: an error is told on standard error.
+// What a run ended with: an error is told on standard error. An output that nobody reads any more is an end like any other.
 fn ended(rt: &HostRuntime, name: &str, outcome: io::Result<()>) -> ExitCode {
-    match outcome {
-        Ok(()) => ExitCode::SUCCESS,
-        Err(error) => {
-            let _told = eprintln!(rt; "telvrang: {name}: {error}");
-            ExitCode::FAILURE
-        }
+    let Err(error) = outcome else {
+        return ExitCode::SUCCESS;
+    };
+    if error.kind() == io::ErrorKind::BrokenPipe {
+        return ExitCode::SUCCESS;
     }
+    let _told = eprintln!(rt; "telvrang: {name}: {error}");
+    ExitCode::FAILURE
 }
 
 fn answer_file(rt: &HostRuntime, name: &str) -> io::Result<()> {
