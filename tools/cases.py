@@ -5,8 +5,9 @@ usage: tools/cases.py PROGRAM
 
 Each case is run whole from standard input, whole from a file named as argument, and cut into pieces. A piece is one packet of a socket of type
 SOCK_SEQPACKET, so that each read of the program returns exactly one piece. Standard output is a file, so that nobody waits for anybody.
-Behind the cases stand what a log can't ask: a file that isn't there, --help, and an output that closes early.
-A line for each run that differs; the last line is 'N cases passed, M failed', and the status is 0 only if M is 0 and N is above 0.
+Behind the cases stands what they can't ask: a file that isn't there, --help, a log far longer than a buffer, and an output that closes early.
+A case is counted once for each way it was run. A line for each run that differs; the last line is 'N cases passed, M failed', and the status is 0
+only if M is 0 and N is above 0.
 """
 import os
 import random
@@ -21,6 +22,7 @@ CASES = os.path.join(os.path.dirname(os.path.dirname(os.path.abspath(__file__)))
 SIZES = (1, 2, 3, 7, 64, 511, 512, 513, 4096)  # a piece has to fit the program's buffer: a read drops what a packet holds beyond it
 SEED = 1  # of the random cuts
 LIMIT = 10  # seconds for one run
+SLOW = 3  # runs that may take so long before the rest is given up
 EARLY = 1  # seconds for a program to end whose output has closed
 
 
@@ -102,10 +104,15 @@ def run_cases(program, output):
     passed = failed = 0
     files = sorted(os.listdir(CASES))
     names = [file[:-len(".log")] for file in files if file.endswith(".log")]
+    known = ["README.md"] + [name + end for name in names for end in (".log", ".answers")]
     for file in files:
-        if file != "README.md" and file.rpartition(".")[0] not in names or file.rpartition(".")[2] not in ("log", "answers", "md"):
+        if file not in known:
             print("cases: %s belongs to no case" % file)
             failed += 1
+    if not names:
+        print("cases: there is no case")
+        failed += 1
+    slow = 0
     for name in names:
         log, answers = os.path.join(CASES, name + ".log"), os.path.join(CASES, name + ".answers")
         if not os.path.exists(answers):
@@ -114,14 +121,20 @@ def run_cases(program, output):
             continue
         data, want = read(log), read(answers)
         for way, command, source, pieces in ways(program, log, name, data):
+            if slow == SLOW:
+                failed += 1  # said once, below
+                continue
             status = run(command, source, pieces, output)
             got = read(output)
             if status == 0 and got == want:
                 passed += 1
                 continue
             failed += 1
+            slow += status is None
             wrong = first_difference(got, want) if got != want else "the answers are right"
             print("%s, %s: %s%s" % (name, way, wrong, "" if status == 0 else "; took too long" if status is None else "; status %d" % status))
+    if slow == SLOW:
+        print("cases: %d runs took too long; the runs behind them were not tried and count as failed" % SLOW)
     return passed, failed
 
 
@@ -136,12 +149,23 @@ def help_text(program, output):
     return child.returncode == 0 and child.stdout != b""
 
 
-def output_closes(program, output):
-    """The reader takes one line of many and closes: the program ends by itself."""
+def many_changes(output):
+    """A log of an opening and 200,000 changes, in a file: its answers are the log itself."""
+    chance = random.Random(SEED)
     log = output + ".log"
     with open(log, "wb") as file:
-        file.write(b"O\t2\t0\t1\n" + b"K\t31\n" * 300000)
-    with open(log, "rb") as source:
+        file.write(b"O\t2\t0\t1\n" + b"".join(b"K\t%d\n" % chance.randrange(32) for _ in range(200000)))
+    return log
+
+
+def long_log(program, output):
+    log = many_changes(output)
+    return run([program], log, None, output) == 0 and read(output) == read(log)
+
+
+def output_closes(program, output):
+    """The reader takes one line of many and closes: the program ends by itself."""
+    with open(many_changes(output), "rb") as source:
         child = subprocess.Popen([program], stdin=source, stdout=subprocess.PIPE, stderr=subprocess.DEVNULL)
     line = child.stdout.readline()
     child.stdout.close()
@@ -167,7 +191,13 @@ def output_closed(program, output):
     return True
 
 
-MANNERS = (("a file that isn't there", missing_file), ("--help", help_text), ("output that closes after a line", output_closes), ("output that is closed", output_closed))
+MANNERS = (
+    ("a file that isn't there", missing_file),
+    ("--help", help_text),
+    ("a log of 200,001 lines", long_log),
+    ("output that closes after a line", output_closes),
+    ("output that is closed", output_closed),
+)
 
 
 def run_manners(program, output):
