@@ -235,3 +235,23 @@ fn in_order(keys: impl Iterator<Item = u16>) -> bool {
     }
     true
 }
+
+#[cfg(test)]
+mod tests {
+    use super::{Delivery, Engine, Outcome};
+    use crate::refusal::Refusal;
+    use crate::sizes::DELIVERIES;
+
+    /// "8: delivery: DC is 4,000,000,000", from both sides.
+    #[test]
+    fn number_8() {
+        let mut engine = Engine::open(1, 0, 31).expect("the sizes are in the table");
+        engine.dc = DELIVERIES - 1;
+        let delivery = Delivery { identity: 1, partitions: 1, st: 0, reads: &[], writes: &[] };
+        let mut finishes = Vec::new();
+        assert_eq!(engine.deliver(&delivery, &mut finishes), Ok(Outcome::Waits { place: 0 }));
+        assert_eq!((engine.dc(), engine.sc(), finishes.len()), (DELIVERIES, 1, 1));
+        assert_eq!(engine.deliver(&delivery, &mut finishes), Err(Refusal::LastDelivery));
+        assert_eq!((engine.dc(), engine.sc(), finishes.len()), (DELIVERIES, 1, 1));
+    }
+}
