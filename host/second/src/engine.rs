@@ -212,14 +212,14 @@ impl Engine {
     /// "After every accepted delivery, vote or change, while the head of the list is ready it is taken off, and the next head is looked at. [..] A local
     /// head commits. A global head commits if every vote was yes, otherwise it aborts and writes nothing."
     fn close(&mut self, finishes: &mut Vec<Finish>) {
-        while self.waiting.head().is_some_and(|head| head.ready(self.dc)) {
-            let Some(head) = self.waiting.take_head() else { return };
+        while let Some(head) = self.waiting.head().filter(|head| head.ready(self.dc)) {
             let identity = head.identity;
             finishes.push(if head.refused {
                 Finish::Aborted { identity }
             } else {
                 Finish::Committed { identity, version: self.store.commit(&head.reads, &head.writes) }
             });
+            self.waiting.drop_head();
         }
     }
 }

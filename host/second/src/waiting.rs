@@ -103,14 +103,15 @@ impl WaitingList {
         self.entries.insert(place, entry);
     }
 
-    pub fn take_head(&mut self) -> Option<Entry> {
-        let entry = self.entries.pop_front()?;
+    /// Takes the head off.
+    pub fn drop_head(&mut self) {
+        let Some(entry) = self.entries.front() else { return };
         for &key in entry.reads.iter() {
             self.uses[usize::from(key)].reading -= 1;
         }
         for write in entry.writes.iter() {
             self.uses[usize::from(write.key)].writing -= 1;
         }
-        Some(entry)
+        self.entries.pop_front();
     }
 }

@@ -1,6 +1,7 @@
 //! The document's run, boundaries, slips and refusals. In the tests `|` stands for the tab, as in the document.
 
 mod both_sides;
+mod by_the_letter;
 mod cuts;
 mod refusals;
 mod slips;
