@@ -48,7 +48,7 @@ struct Fields<'a> {
 impl Fields<'_> {
     fn delivery(&mut self, lists: &mut Lists) -> Option<Record> {
         let record = Record::Delivery { identity: self.large()?, partitions: self.small()?, st: self.large()? };
-        self.list(&mut lists.reads, |item| Some(item.number()?.try_into().ok()?))?;
+        self.list(&mut lists.reads, |item| item.number()?.try_into().ok())?;
         self.list(&mut lists.writes, Self::write)?;
         Some(record)
     }

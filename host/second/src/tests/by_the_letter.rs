@@ -1,5 +1,7 @@
 //! The engine against one that does each thing as the document tells it, commit by commit and entry by entry, with every commit kept for good.
 
+use std::collections::BTreeSet;
+
 use crate::{Delivery, Engine, Finish, Outcome, Reason, Refusal, Write};
 
 #[derive(Clone, Default)]
@@ -172,11 +174,13 @@ impl Chance {
     }
 }
 
-fn compare(seed: u64, events: u32) {
+/// Runs one log on both. What was answered is added to `seen`, places as "first" or "behind".
+fn compare(seed: u64, events: u32, seen: &mut BTreeSet<String>) {
+    let mut note = |what: String| seen.insert(what);
     let mut chance = Chance(seed);
     let partitions = 1 + chance.below(8) as u8;
     let own = chance.below(partitions.into()) as u8;
-    let k = chance.below(if seed % 2 == 0 { 4 } else { 32 });
+    let k = chance.below(if seed.is_multiple_of(2) { 4 } else { 32 });
     let range = [6, 30, 200, 1_030][chance.below(4) as usize];
     let mut letter = Letter { partitions, own, k, dc: 0, waiting: vec![], commits: vec![] };
     let mut engine = Engine::open(partitions, own, k as u16).expect("the sizes are in the table");
@@ -190,6 +194,11 @@ fn compare(seed: u64, events: u32) {
                 let answer = engine.deliver(&Delivery { identity, partitions, st, reads, writes }, &mut finishes);
                 let (wanted, finished) = letter.deliver(newcomer);
                 assert_eq!(answer, wanted, "seed {seed}, event {event}");
+                note(match answer {
+                    Ok(Outcome::Waits { place: 0 }) => "first".to_owned(),
+                    Ok(Outcome::Waits { .. }) => "behind".to_owned(),
+                    other => format!("{other:?}"),
+                });
                 finished
             }
             5..=8 => {
@@ -200,11 +209,14 @@ fn compare(seed: u64, events: u32) {
                 let answer = engine.vote(identity, partition, yes, &mut finishes);
                 let (wanted, finished) = letter.vote(identity, partition, yes);
                 assert_eq!(answer, wanted, "seed {seed}, event {event}");
+                note(format!("vote {answer:?}"));
                 finished
             }
             _ => {
                 let (key, st) = (chance.below(range) as u16, (letter.sc() + 1).saturating_sub(chance.below(68)));
-                assert_eq!(engine.read(key, st), letter.read(key, st), "seed {seed}, event {event}");
+                let answer = engine.read(key, st);
+                assert_eq!(answer, letter.read(key, st), "seed {seed}, event {event}");
+                note(format!("read {:?}", answer.map(|value| value.signum())));
                 vec![]
             }
         };
@@ -215,7 +227,10 @@ fn compare(seed: u64, events: u32) {
 
 #[test]
 fn the_engine_does_what_the_letter_says() {
+    let mut seen = BTreeSet::new();
     for seed in 0..300 {
-        compare(seed, 600);
+        compare(seed, 600, &mut seen);
     }
+    // Deliveries: two kinds of place, three reasons, numbers 1 to 7. Votes: stored, 9, 10, 11. Reads: three signs, 3, 5, 6.
+    assert_eq!(seen.len(), 12 + 4 + 6, "{seen:?}");
 }

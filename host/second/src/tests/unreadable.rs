@@ -57,7 +57,7 @@ fn other_bytes() {
 fn delivery_of(length: usize) -> Vec<u8> {
     let start = "D|11|1|0|";
     let body = length - start.len();
-    let end = if body % 2 == 0 { "10|-" } else { "1|-" };
+    let end = if body.is_multiple_of(2) { "10|-" } else { "1|-" };
     let line = tabs(&[start, &"1,".repeat((body - end.len()) / 2), end].concat());
     assert_eq!(line.len(), length);
     line
