@@ -1,8 +1,8 @@
 -- What `earliest_place` answers.
 use Rattle.std.specs.Prelude.{ℕ, ◌≤◌, Bool, true, false, cond, List, ◌≡◌, Some, None}
+use Rattle.std.specs.List.{list_any}
 use Rattle.std.proofs.Math.Option.{none, some}
 use Rattle.std.proofs.Common.{sym, ap, ◌∙◌, arith}
-use Rattle.rules.specs.Lists.{any}
 use Rattle.rules.specs.Place.{place}
 use Rattle.laws.specs.Options.{given}
 use Rattle.laws.specs.Tabs.{tab, length_tab, take_tab}
@@ -15,11 +15,11 @@ module _ {A : Type 0} (pass : A → Bool) (n i : ℕ) (f : ℕ → A) (reached :
       let within = reached.within in
       omega (arith, length_tab n f)
 
-  place_told : (block : A → Bool) → place block pass (tab n f) ≡ cond (any block (tab i f)) none (some i)
-  place_told block = place_reached block pass (tab n f) i reached ∙ ap (λ (es : List A). cond (any block es) none (some i)) (take_tab i n f reached_most)
+  place_told : (block : A → Bool) → place block pass (tab n f) ≡ cond (list_any block (tab i f)) none (some i)
+  place_told block = place_reached block pass (tab n f) i reached ∙ ap (λ (es : List A). cond (list_any block es) none (some i)) (take_tab i n f reached_most)
 
-  pub free_at : (block : A → Bool) {r : Bool} → r ≡ any block (tab i f) → r ≡ false → Some i ≡ given (place block pass (tab n f))
+  pub free_at : (block : A → Bool) {r : Bool} → r ≡ list_any block (tab i f) → r ≡ false → Some i ≡ given (place block pass (tab n f))
   free_at block told free = rw (place_told block, sym told ∙ free)
 
-  pub blocked_nowhere : (block : A → Bool) {r : Bool} → r ≡ any block (tab i f) → r ≡ true → None ≡ given (place block pass (tab n f))
+  pub blocked_nowhere : (block : A → Bool) {r : Bool} → r ≡ list_any block (tab i f) → r ≡ true → None ≡ given (place block pass (tab n f))
   blocked_nowhere block told blocks = rw (place_told block, sym told ∙ blocks)

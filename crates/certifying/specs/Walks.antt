@@ -2,7 +2,7 @@
 -- The place behind that one is the place reached, or the first place where none fails.
 use Rattle.std.specs.Prelude.{ℕ, zero, suc, ◌+◌, ◌-◌, ◌≤◌, ◌<◌, Bool, true, false, not, ◌&&◌, List, [], ◌∷◌, ◌≡◌, refl, ltb, length, drop, Option, Some, None, MatchOption}
 use Rattle.std.specs.declared.ops.Range.{Range}
-use Rattle.std.specs.List.{FoldsTo}
+use Rattle.std.specs.List.{FoldsTo, list_all}
 use Rattle.std.specs.Fn.{Called}
 use Rattle.std.specs.Option.{is_some, IsSomeAnd}
 use Rattle.std.specs.Iterator.{Yields, FindsPositionBack}
@@ -11,27 +11,26 @@ use Rattle.std.proofs.lemmas.Bool.{not-true, not-false}
 use Rattle.std.proofs.iter.runs.Sources.{nat_range_steps_back}
 use denote.Param.Members.{Mut}
 use borrow.Author.Tests.{ltb-true, ltb-false}
-use Rattle.rules.specs.Lists.{all}
 use Rattle.laws.specs.Tests.{split, and_both}
 use Rattle.laws.specs.Walks.{below}
 use Rattle.laws.specs.Tabs.{tab, length_tab, get_or_tab, drop_tab}
 use Rattle.certifying.specs.Places.{Reached}
 
 module _ {A : Type 0} (pass : A → Bool) where
-  all_pass : (n : ℕ) (f : ℕ → A) → ((j : ℕ) → j < n → pass (f j) ≡ true) → all pass (tab n f) ≡ true
+  all_pass : (n : ℕ) (f : ℕ → A) → ((j : ℕ) → j < n → pass (f j) ≡ true) → list_all pass (tab n f) ≡ true
   unfolding tab
   all_pass zero f h = refl
   all_pass (suc n) f h =
-      and_both (pass (f 0)) (all pass (tab n (λ j. f (suc j)))) (h 0 (omega arith)) (all_pass n (λ j. f (suc j)) (λ j low. h (suc j) (omega arith)))
+      and_both (pass (f 0)) (list_all pass (tab n (λ j. f (suc j)))) (h 0 (omega arith)) (all_pass n (λ j. f (suc j)) (λ j low. h (suc j) (omega arith)))
 
   module _ (f : ℕ → A) (n : ℕ) where
-    pass_behind : (i : ℕ) → ((j : ℕ) → j < n → i ≤ j → pass (f j) ≡ true) → all pass (drop i (tab n f)) ≡ true
-    pass_behind i h = ap (all pass) (drop_tab i n f) ∙ all_pass (n - i) (λ j. f (i + j)) (λ j low. h (i + j) (omega arith) (omega arith))
+    pass_behind : (i : ℕ) → ((j : ℕ) → j < n → i ≤ j → pass (f j) ≡ true) → list_all pass (drop i (tab n f)) ≡ true
+    pass_behind i h = ap (list_all pass) (drop_tab i n f) ∙ all_pass (n - i) (λ j. f (i + j)) (λ j low. h (i + j) (omega arith) (omega arith))
 
-    fails_from : (i : ℕ) → i < n → pass (f i) ≡ false → all pass (drop i (tab n f)) ≡ false
+    fails_from : (i : ℕ) → i < n → pass (f i) ≡ false → list_all pass (drop i (tab n f)) ≡ false
     fails_from i low h =
-        ap (all pass) (drop-cons (tab n f) i (f 0) (rw (length_tab n f) low))
-        ∙ ap (λ (b : Bool). b && all pass (drop (suc i) (tab n f))) (ap pass (get_or_tab n f i (f 0) low) ∙ h)
+        ap (list_all pass) (drop-cons (tab n f) i (f 0) (rw (length_tab n f) low))
+        ∙ ap (λ (b : Bool). b && list_all pass (drop (suc i) (tab n f))) (ap pass (get_or_tab n f i (f 0) low) ∙ h)
 
     -- Every value from the ith on passes, and the one in front of them, if there is one, doesn't.
     stops_at : (i : ℕ) → i ≤ n → ((j : ℕ) → j < n → i ≤ j → pass (f j) ≡ true) → ((j : ℕ) → suc j ≡ i → pass (f j) ≡ false) → Reached pass (tab n f) i

@@ -2,7 +2,7 @@
 #![tactic(auto)]
 
 ghost use Rattle.std.specs.Prelude.{◌+◌, ◌-◌, ◌≤◌, ◌≡◌};
-ghost use Rattle.rules.specs.Lists.{any};
+ghost use Rattle.std.specs.List.{list_any};
 ghost use Rattle.rules.specs.Place.{place};
 ghost use Rattle.laws.specs.Options.{given};
 ghost use Rattle.laws.specs.Tabs.{tab};
@@ -52,14 +52,14 @@ impl Newcomer<'_> {
 pub fn clashes_with_commits(kept: Kept<'_>, st: u32, newcomer: Newcomer<'_>, global: bool) -> bool
     requires st_le_sc { st ≤ kept.sc }
     requires sc_bound { kept.sc ≤ st + 64 }
-    ensures { result ≡ any (row_clash global newcomer.entry.reads.list.now newcomer.entry.keys.list.now) (tab (kept.entry.sc - st) (λ j. kept_words kept.entry.book.words.now (kept.entry.sc - j))) }
+    ensures { result ≡ list_any (row_clash global newcomer.entry.reads.list.now newcomer.entry.keys.list.now) (tab (kept.entry.sc - st) (λ j. kept_words kept.entry.book.words.now (kept.entry.sc - j))) }
 {
     (0..kept.sc - st).any(|j| newcomer.clashes_with(kept.row(kept.sc - j), global))
 }
 
 // "tested in the same two ways against every waiting entry"
 pub fn clashes_with_waiting(waiting: Waiting<'_>, newcomer: Newcomer<'_>, global: bool) -> bool
-    ensures { result ≡ any (row_clash global newcomer.entry.reads.list.now newcomer.entry.keys.list.now) (tab waiting.entry.count (waiting_words waiting.entry.book.words.now)) }
+    ensures { result ≡ list_any (row_clash global newcomer.entry.reads.list.now newcomer.entry.keys.list.now) (tab waiting.entry.count (waiting_words waiting.entry.book.words.now)) }
 {
     (0..waiting.count).any(|i| newcomer.clashes_with(waiting.row(i), global))
 }
@@ -67,7 +67,7 @@ pub fn clashes_with_waiting(waiting: Waiting<'_>, newcomer: Newcomer<'_>, global
 // One of the first n waiting entries "writes a key it reads".
 fn is_blocked(waiting: Waiting<'_>, n: usize, newcomer: Newcomer<'_>) -> bool
     requires { n ≤ waiting.count }
-    ensures { result ≡ any (row_blocks newcomer.entry.reads.list.now) (tab n (waiting_words waiting.entry.book.words.now)) }
+    ensures { result ≡ list_any (row_blocks newcomer.entry.reads.list.now) (tab n (waiting_words waiting.entry.book.words.now)) }
 {
     (0..n).any(|i| newcomer.is_blocked_by(waiting.row(i)))
 }

@@ -3,7 +3,7 @@ use Rattle.std.specs.Prelude.{ℕ, zero, suc, ◌+◌, ◌-◌, ◌≤◌, ◌<�
 use Rattle.std.proofs.Common.{ap, sym, ◌∙◌, arith, drop-cons, drop_of_length-le}
 use Rattle.std.proofs.Math.Numerals.{add-one}
 use Rattle.std.specs.List.{list_any, list_all, range_with_len}
-use Rattle.rules.specs.Lists.{any, member}
+use Rattle.rules.specs.Lists.{member}
 use Rattle.rules.specs.Soundness.{different}
 use Rattle.laws.specs.Tabs.{tab, length_tab, get_or_tab}
 
@@ -27,12 +27,12 @@ module _ {A : Type 0} where
   rest_all n g = refl
 
   -- A test asked of the numbers from a place on, by what a function gives at each.
-  any_from : (f : A → Bool) (g : ℕ → A) (n i m : ℕ) → m ≡ n - i → list_any (λ j. f (g j)) (range_with_len i m) ≡ any f (rest n g i)
-  any_from f g n i zero e = ap (any f) (sym (rest_none n g i (omega arith)))
+  any_from : (f : A → Bool) (g : ℕ → A) (n i m : ℕ) → m ≡ n - i → list_any (λ j. f (g j)) (range_with_len i m) ≡ list_any f (rest n g i)
+  any_from f g n i zero e = ap (list_any f) (sym (rest_none n g i (omega arith)))
   any_from f g n i (suc m) e =
-      ap (λ (b : Bool). f (g i) || b) (any_from f g n (i + 1) m (omega arith)) ∙ ap (any f) (sym (rest_here n g i (omega arith)))
+      ap (λ (b : Bool). f (g i) || b) (any_from f g n (i + 1) m (omega arith)) ∙ ap (list_any f) (sym (rest_here n g i (omega arith)))
 
-  pub any_rest : (f : A → Bool) (g : ℕ → A) (n i : ℕ) → list_any (λ j. f (g j)) (range_with_len i (n - i)) ≡ any f (rest n g i)
+  pub any_rest : (f : A → Bool) (g : ℕ → A) (n i : ℕ) → list_any (λ j. f (g j)) (range_with_len i (n - i)) ≡ list_any f (rest n g i)
   any_rest f g n i = any_from f g n i (n - i) refl
 
 -- They differ exactly if none of them is among those behind it.

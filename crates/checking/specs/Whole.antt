@@ -1,12 +1,12 @@
 -- The rules' soundness of the state that the tables hold, by tests on the tables alone: of the counters, of the kept rows, of the identities, of the
 -- waiting rows. That the kept commits number the smaller of SC and 64, and the values 1,024, holds of any tables that are long enough.
 use Rattle.std.specs.Prelude.{ℕ, ◌-◌, ◌≤◌, ◌<◌, min, Bool, true, ◌&&◌, List, [], ◌∷◌, ◌≡◌, refl, ℤ, length}
+use Rattle.std.specs.List.{list_all}
 use Rattle.std.proofs.Math.Path.{sym, ap}
 use Rattle.std.proofs.Common.{◌∙◌}
 use native.Mathlib.Omega.{arith}
 use Rattle.std.proofs.Math.ListN.{get_or}
 use Rattle.std.proofs.lemmas.Bool.{false_from_ne_true}
-use Rattle.rules.specs.Lists.{all}
 use Rattle.rules.specs.Sizes.{keys, most_partitions, most_waiting, most_kept, most_dc}
 use Rattle.rules.specs.Ledger.{Entry}
 use Rattle.rules.specs.Soundness.{good_commit, good_entry, different, identities, sound}
@@ -38,13 +38,13 @@ counters_pass book =
     counters_fit (get_or book partitions_at 0) (get_or book own_at 0) (get_or book sc_at 0) (get_or book dc_at 0) (get_or book k_at 0) (get_or book waiting_at 0)
 
 unfoldable pub kept_pass : ℕ → List ℕ → Bool
-kept_pass sc book = all sets_good (tab (min sc most_kept) (newest_words book sc))
+kept_pass sc book = list_all sets_good (tab (min sc most_kept) (newest_words book sc))
 
 unfoldable pub identities_pass : ℕ → List ℕ → Bool
 identities_pass n book = different (tab n (identity_at book))
 
 unfoldable pub waiting_pass : ℕ → ℕ → ℕ → ℕ → List ℕ → Bool
-waiting_pass partitions own dc n book = all (row_good partitions own dc) (tab n (waiting_words book))
+waiting_pass partitions own dc n book = list_all (row_good partitions own dc) (tab n (waiting_words book))
 
 -- What the counters' part alone bounds.
 module _ (book : List ℕ) (fit : counters_pass book ≡ true) where
@@ -65,7 +65,7 @@ module _ (book : List ℕ) (fit : counters_pass book ≡ true) where
 
 module _ (book : List ℕ) (sums : List ℤ) where
   -- The rules' tests of the lists that the tables hold are those tests.
-  kept_same : (sc : ℕ) → all good_commit (kept_view sc book sums) ≡ kept_pass sc book
+  kept_same : (sc : ℕ) → list_all good_commit (kept_view sc book sums) ≡ kept_pass sc book
   unfolding kept_view commit_at kept_pass newest_words
   kept_same sc =
       all_tab_same (min sc most_kept) good_commit (λ j. commit_at book sums (sc - j)) sets_good (newest_words book sc)
@@ -82,7 +82,7 @@ module _ (book : List ℕ) (sums : List ℤ) where
       (map_tab (λ (e : Entry). e.transaction.identity) n (entry_at book sums)
       ∙ tab_same n (λ i. (entry_at book sums i).transaction.identity) (identity_at book) (λ i low. identity_same i))
 
-  waiting_same : (partitions own dc n : ℕ) → all (good_entry partitions own dc) (waiting_view n book sums) ≡ waiting_pass partitions own dc n book
+  waiting_same : (partitions own dc n : ℕ) → list_all (good_entry partitions own dc) (waiting_view n book sums) ≡ waiting_pass partitions own dc n book
   unfolding waiting_view entry_at waiting_pass
   waiting_same partitions own dc n =
       all_tab_same n (good_entry partitions own dc) (entry_at book sums) (row_good partitions own dc) (waiting_words book)

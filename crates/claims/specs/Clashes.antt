@@ -1,8 +1,8 @@
 -- The clash in 01's words: which key is shared, and which commits of which versions are looked at.
 use Rattle.std.specs.Prelude.{ℕ, zero, suc, ◌+◌, ◌-◌, ◌<◌, Bool, true, false, not, ◌&&◌, List, [], ◌∷◌, ◌++◌, ◌↔◌, ◌⊎◌, ◌≡◌, refl, length, take}
+use Rattle.std.specs.List.{list_any}
 use Rattle.std.proofs.Common.{zero-le, suc-le-suc, inl, inr, ⊎_elim, ap, le_of_suc-le-suc, not-suc-le-zero, arith}
 use Rattle.std.proofs.lemmas.Bool.{not-true}
-use Rattle.rules.specs.Lists.{any}
 use Rattle.rules.specs.Keys.{meet}
 use Rattle.rules.specs.Ledger.{Transaction, Commit, Books, keys_of, is_local}
 use Rattle.rules.specs.Delivery.{clash, clash_commit, commits_after}
@@ -34,20 +34,20 @@ pub record Below {A : Type 0} (xs : List A) (n : ℕ) (x : A) : Type 0 where
   pub low : length newer < n
 
 module _ {A : Type 0} (f : A → Bool) where
-  pub any_take_found : (n : ℕ) (xs : List A) → any f (take n xs) ≡ true → (x : A) × Below xs n x × (f x ≡ true)
+  pub any_take_found : (n : ℕ) (xs : List A) → list_any f (take n xs) ≡ true → (x : A) × Below xs n x × (f x ≡ true)
   any_take_found zero xs h = never false h refl
   any_take_found (suc n) [] h = never false h refl
   any_take_found (suc n) (x ∷ xs) h =
       ⊎_elim (λ q. (x, record { newer = []; older = xs; stands = refl; low = suc-le-suc zero-le }, q))
       (λ q. let r = any_take_found n xs q in
       (r.0, record { newer = x ∷ r.1.newer; older = r.1.older; stands = ap (λ (l : List A). x ∷ l) r.1.stands; low = suc-le-suc r.1.low }, r.2))
-      (or_cases (f x) (any f (take n xs)) h)
+      (or_cases (f x) (list_any f (take n xs)) h)
 
-  pub any_take_at : (n : ℕ) (newer older : List A) (x : A) → length newer < n → f x ≡ true → any f (take n (newer ++ x ∷ older)) ≡ true
+  pub any_take_at : (n : ℕ) (newer older : List A) (x : A) → length newer < n → f x ≡ true → list_any f (take n (newer ++ x ∷ older)) ≡ true
   any_take_at zero newer older x low h = absurd (not-suc-le-zero low)
-  any_take_at (suc n) [] older x low h = or_first (f x) (any f (take n older)) h
+  any_take_at (suc n) [] older x low h = or_first (f x) (list_any f (take n older)) h
   any_take_at (suc n) (y ∷ newer) older x low h =
-      or_second (f y) (any f (take n (newer ++ x ∷ older))) (any_take_at n newer older x (le_of_suc-le-suc low) h)
+      or_second (f y) (list_any f (take n (newer ++ x ∷ older))) (any_take_at n newer older x (le_of_suc-le-suc low) h)
 
 -- The kept commit of a version: the newest has version SC, each older one a version less.
 pub record VersionOf (b : Books) (v : ℕ) (c : Commit) : Type 0 where
@@ -65,7 +65,7 @@ pub record ClashingCommit (own : ℕ) (t : Transaction) (b : Books) : Type 0 whe
   pub clashes : Clash own t commit.reads (keys_of commit.writes)
 
 pub commits_exactly : (own : ℕ) (t : Transaction) (b : Books)
-    → any (clash_commit own t) (commits_after t.st b) ≡ true ↔ ClashingCommit own t b
+    → list_any (clash_commit own t) (commits_after t.st b) ≡ true ↔ ClashingCommit own t b
 unfolding commits_after clash_commit
 commits_exactly own t b = (
   λ h. let r = any_take_found (clash_commit own t) (b.sc - t.st) b.kept h in

@@ -1,9 +1,10 @@
 -- 01's first fact: accepted deliveries equal commits, aborts and waiting together, the aborts counted from the answers given. And DC, SC and
 -- the number of finishes are the log's own counts.
-use Rattle.std.specs.Prelude.{ℕ, suc, ◌+◌, List, [], ◌∷◌, ◌++◌, map, ◌≡◌, refl, length}
+use Rattle.std.specs.Prelude.{ℕ, suc, ◌+◌, List, [], ◌∷◌, map, ◌≡◌, refl, length, sum_by}
 use Rattle.std.proofs.Math.Option.{Option}
 use Rattle.std.proofs.Common.{sym, ◌∙◌, arith, length-append}
 use Rattle.std.proofs.lemmas.List.{length-map}
+use Rattle.std.proofs.lemmas.List.Sums.{sum_by-cons, sum_by-append}
 use Rattle.rules.specs.Partitions.{Ballot, none_heard}
 use Rattle.rules.specs.Ledger.{Entry, Clock, Books, State, opening, is_local}
 use Rattle.rules.specs.Delivery.{ticked, entered, Fate, abort, join, fate, joined, vote_to_send}
@@ -41,19 +42,10 @@ abbrev pub abort_of : Outcome → ℕ
 abort_of (version v) = 0
 abort_of aborts = 1
 
-unfoldable pub total : {A : Type 0} → (A → ℕ) → List A → ℕ
-total f [] = 0
-total f (x ∷ xs) = f x + total f xs
-
-total_append : {A : Type 0} (f : A → ℕ) (xs ys : List A) → total f (xs ++ ys) ≡ total f xs + total f ys
-unfolding total
-total_append f [] ys = omega arith
-total_append f (x ∷ xs) ys = omega (arith, total_append f xs ys)
-
 -- Closing: every entry that is gone has a finish, and SC counts the commits among them.
 record ClosedCounts (es : List Entry) (b : Books) (fs : List Finish) (left : List Entry) (after : Books) : Type 0 where
   pub entries : length es ≡ length fs + length left
-  pub versions : after.sc ≡ b.sc + total (λ f. commit_of f.outcome) fs
+  pub versions : after.sc ≡ b.sc + sum_by (λ f. commit_of f.outcome) fs
 
 finish_sc : (c : Clock) (e : Entry) (b : Books) → (books_after c e b).sc ≡ b.sc + commit_of (finish c e b).outcome
 unfolding books_after finish committed
@@ -61,18 +53,18 @@ finish_sc c e b = split (commits c e) (λ q. rw q) (λ q. rw q (omega arith))
 
 close_counts : (c : Clock) (es : List Entry) (b : Books)
     → ClosedCounts es b (close c es b).finishes (close c es b).waiting (close c es b).books
-unfolding total
 close_counts c [] b = rw (close_nil c b) (record { entries = refl; versions = omega arith })
 close_counts c (e ∷ es) b =
     split (ready c e)
     (λ q. let r = close_counts c es (books_after c e b) in
-    rw (close_ready c e es b q) (record { entries = omega arith; versions = omega (arith, finish_sc c e b) }))
+    let more = sum_by-cons (λ (f : Finish). commit_of f.outcome) (finish c e b) (close c es (books_after c e b)).finishes in
+    rw (close_ready c e es b q) (record { entries = omega arith; versions = omega (arith, finish_sc c e b, more) }))
     (λ q. rw (close_rest c e es b q) (record { entries = omega arith; versions = omega arith }))
 
 -- One event: DC counts the accepted deliveries, SC the commits, and whoever joined waits or has finished.
 record StepCounts (s : State) (r : Step) : Type 0 where
   pub deliveries : r.next.clock.dc ≡ s.clock.dc + (joins_told r.answer + aborts_told r.answer)
-  pub versions : r.next.books.sc ≡ s.books.sc + total (λ f. commit_of f.outcome) r.finishes
+  pub versions : r.next.books.sc ≡ s.books.sc + sum_by (λ f. commit_of f.outcome) r.finishes
   pub entries : length s.waiting + joins_told r.answer ≡ length r.finishes + length r.next.waiting
 
 closing_counts : (s : State) (a : Answer) (c : Clock) (es : List Entry) → c.dc ≡ s.clock.dc + (joins_told a + aborts_told a)
@@ -99,7 +91,7 @@ unfolding ticked
 delivered_ticks s send f = omega (arith, delivered_told (ticked s.clock) send f)
 
 accepted_counts : (e : Event) (s : State) → StepCounts s (accepted e s)
-unfolding accepted deliver_with deliver_at take_vote take_change take_read with_k total
+unfolding accepted deliver_with deliver_at take_vote take_change take_read with_k
 accepted_counts (delivery t) s =
     let c = ticked s.clock in
     let f = fate c t s.waiting s.books in
@@ -112,23 +104,22 @@ accepted_counts (change k) s = closing_counts s changed (with_k k s.clock) s.wai
 accepted_counts (read key st) s = record { deliveries = omega arith; versions = omega arith; entries = omega arith }
 
 step_counts : (e : Event) (s : State) → StepCounts s (step e s)
-unfolding total
 step_counts e s =
     refused_or (refusal e s) (λ q. rw (step_accepted e s q) (accepted_counts e s))
     (λ n q. rw (step_refused e s q) (record { deliveries = omega arith; versions = omega arith; entries = omega arith }))
 
 -- What a log's answers and finishes count.
 abbrev pub joined_in : List Event → State → ℕ
-joined_in es s = total (λ r. joins_told r.answer) (steps es s)
+joined_in es s = sum_by (λ r. joins_told r.answer) (steps es s)
 
 abbrev pub aborted_at_delivery : List Event → State → ℕ
-aborted_at_delivery es s = total (λ r. aborts_told r.answer) (steps es s)
+aborted_at_delivery es s = sum_by (λ r. aborts_told r.answer) (steps es s)
 
 abbrev pub committed_in : List Event → State → ℕ
-committed_in es s = total (λ f. commit_of f.outcome) (finishes es s)
+committed_in es s = sum_by (λ f. commit_of f.outcome) (finishes es s)
 
 abbrev pub aborted_at_closing : List Event → State → ℕ
-aborted_at_closing es s = total (λ f. abort_of f.outcome) (finishes es s)
+aborted_at_closing es s = sum_by (λ f. abort_of f.outcome) (finishes es s)
 
 -- "accepted deliveries": those whose answer is neither a refusal nor another event's.
 abbrev pub accepted_deliveries : List Event → State → ℕ
@@ -140,27 +131,30 @@ record LogCounts (es : List Event) (s : State) : Type 0 where
   pub entries : length s.waiting + joined_in es s ≡ length (finishes es s) + length (last es s).waiting
 
 log_counts : (es : List Event) (s : State) → LogCounts es s
-unfolding steps last finishes total
+unfolding steps last finishes
 log_counts [] s = record { deliveries = omega arith; versions = omega arith; entries = omega arith }
 log_counts (e ∷ es) s =
     let k = step_counts e s in
     let r = log_counts es (step e s).next in
     let later = finishes es (step e s).next in
     let now = (step e s).finishes in
+    let joins = sum_by-cons (λ (q : Step). joins_told q.answer) (step e s) (steps es (step e s).next) in
+    let aborted = sum_by-cons (λ (q : Step). aborts_told q.answer) (step e s) (steps es (step e s).next) in
     record {
-      deliveries = omega (arith, k.deliveries, r.deliveries);
-      versions = omega (arith, k.versions, r.versions, total_append (λ f. commit_of f.outcome) now later);
-      entries = omega (arith, k.entries, r.entries, length-append now later);
+      deliveries = omega (arith, k.deliveries, r.deliveries, joins, aborted);
+      versions = omega (arith, k.versions, r.versions, sum_by-append (λ f. commit_of f.outcome) now later);
+      entries = omega (arith, k.entries, r.entries, length-append now later, joins);
     }
 
 -- Every finish is a commit or an abort.
-finishes_are : (fs : List Finish) → length fs ≡ total (λ f. commit_of f.outcome) fs + total (λ f. abort_of f.outcome) fs
-unfolding total
+finishes_are : (fs : List Finish) → length fs ≡ sum_by (λ f. commit_of f.outcome) fs + sum_by (λ f. abort_of f.outcome) fs
 finishes_are [] = refl
-finishes_are (f ∷ fs) = one f.outcome (finishes_are fs)
+finishes_are (f ∷ fs) =
+    one f.outcome (finishes_are fs)
+    ∙ omega (arith, sum_by-cons (λ (g : Finish). commit_of g.outcome) f fs, sum_by-cons (λ (g : Finish). abort_of g.outcome) f fs)
   where
-    one : (o : Outcome) → length fs ≡ total (λ g. commit_of g.outcome) fs + total (λ g. abort_of g.outcome) fs
-        → suc (length fs) ≡ commit_of o + total (λ g. commit_of g.outcome) fs + (abort_of o + total (λ g. abort_of g.outcome) fs)
+    one : (o : Outcome) → length fs ≡ sum_by (λ g. commit_of g.outcome) fs + sum_by (λ g. abort_of g.outcome) fs
+        → suc (length fs) ≡ commit_of o + sum_by (λ g. commit_of g.outcome) fs + (abort_of o + sum_by (λ g. abort_of g.outcome) fs)
     one (version v) h = omega arith
     one aborts h = omega arith
 

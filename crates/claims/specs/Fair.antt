@@ -1,12 +1,12 @@
 -- What a log whose votes come in time gives at each place of it, for an entry that waits there.
 use Rattle.std.specs.Prelude.{ℕ, ◌<◌, Bool, false, not, ◌&&◌, ◌||◌, List, ◌∷◌, ◌++◌, ◌≡◌, refl, eqb}
+use Rattle.std.specs.List.{list_any}
 use Rattle.std.proofs.Common.{arith, ap, ◌∙◌}
 use Rattle.std.proofs.Math.Bool.{true, or-false}
 use Rattle.std.proofs.lemmas.Bool.{false≢true}
 use Rattle.std.proofs.Math.Logic.{inl, inr}
 use Rattle.std.proofs.Math.Path.{sym}
 use borrow.Author.Tests.{eqb-true, eq-eqb, leb-true}
-use Rattle.rules.specs.Lists.{any}
 use Rattle.rules.specs.Partitions.{Ballot, aye, nay, none_heard, other, heard_from}
 use Rattle.rules.specs.Ledger.{Transaction, Entry, State}
 use Rattle.rules.specs.Events.{Event, delivery, vote, change, read}
@@ -73,7 +73,7 @@ has_vote_found i p b es h =
     let found = found_place (is_vote i p b) es h in
     found_voted (is_vote i p b) i p b es found (is_vote_true i p b found.element found.holds)
 
-is_on_found : (i : ℕ) (es : List Event) → any (is_on i) es ≡ true → (p : ℕ) × (b : Ballot) × Voted i p b es
+is_on_found : (i : ℕ) (es : List Event) → list_any (is_on i) es ≡ true → (p : ℕ) × (b : Ballot) × Voted i p b es
 is_on_found i es h =
     let found = found_place (is_on i) es h in
     let is = is_on_true i found.element found.holds in
@@ -120,7 +120,7 @@ module _ (s : State) (es : List Event) (timed : Timed s es) where
 
   pub fresh : (t : Transaction) (before rest : List Event) → es ≡ before ++ delivery t ∷ rest → votes_of before t.identity ≡ none_heard
   fresh t before rest cut =
-      split (any (is_on t.identity) before)
+      split (list_any (is_on t.identity) before)
       (λ q. let on = is_on_found t.identity before q in absurd (none_before t before rest cut on.0 on.1 on.2))
       (λ q. gather_none none_heard t.identity before q)
 
@@ -148,7 +148,7 @@ module _ (s : State) (es : List Event) (timed : Timed s es) where
     pub timely : (u : Transaction) (rest : List Event) → es ≡ before ++ delivery u ∷ rest → Timely (votes_of es) (last before s).clock e
     unfolding gather
     timely u rest cut reached =
-        split (any (is_on e.transaction.identity) rest)
+        split (list_any (is_on e.transaction.identity) rest)
         (λ q. let on = is_on_found e.transaction.identity rest q in
         let low = below u rest cut on.0 on.1 on.2 in
         let high = leb-true e.rt (last before s).clock.dc reached in

@@ -1,9 +1,9 @@
 -- Demand 2 for a delivery: reasons 1, 2 and 3 and the place, each given exactly when 01 says so, of the answer of a delivery that isn't refused.
 use Rattle.std.specs.Prelude.{ℕ, ◌≤◌, ◌<◌, Bool, true, false, cond, ◌↔◌, ◌⊎◌, ◌≡◌, refl, length}
+use Rattle.std.specs.List.{list_any}
 use mathlib.Core.List.{List, Memᴰ}
 use Rattle.std.proofs.Common.{inl, inr, ⊎_elim, sym, ap, ◌∙◌, subst, arith}
 use Rattle.std.proofs.Math.Option.{Option, none, some}
-use Rattle.rules.specs.Lists.{any}
 use Rattle.rules.specs.Ledger.{Transaction, Entry, Clock, Books, keys_of, is_local}
 use Rattle.rules.specs.Place.{place}
 use Rattle.rules.specs.Delivery.{blocks, passes, clash_commit, clash_entry, commits_after, Fate, abort, join, placed, fate}
@@ -22,7 +22,7 @@ pub record ClashingEntry (own : ℕ) (t : Transaction) (waiting : List Entry) : 
   pub waits : Memᴰ entry waiting
   pub clashes : Clash own t entry.transaction.reads (keys_of entry.transaction.writes)
 
-entries_exactly : (own : ℕ) (t : Transaction) (waiting : List Entry) → any (clash_entry own t) waiting ≡ true ↔ ClashingEntry own t waiting
+entries_exactly : (own : ℕ) (t : Transaction) (waiting : List Entry) → list_any (clash_entry own t) waiting ≡ true ↔ ClashingEntry own t waiting
 unfolding clash_entry
 entries_exactly own t waiting = (
   λ h. let r = any_found (clash_entry own t) waiting h in
@@ -74,32 +74,32 @@ placed_never (some i) reason low h = let z : ◌≡◌ {A = ℕ} 0 1 = cc in ome
 
 module _ (c : Clock) (t : Transaction) (waiting : List Entry) (b : Books) where
   -- The four ways through the numbered rules.
-  fate_first : any (clash_commit c.own t) (commits_after t.st b) ≡ true → fate c t waiting b ≡ abort 1
+  fate_first : list_any (clash_commit c.own t) (commits_after t.st b) ≡ true → fate c t waiting b ≡ abort 1
   unfolding fate
   fate_first p = rw p
 
-  fate_local : any (clash_commit c.own t) (commits_after t.st b) ≡ false → is_local c.own t ≡ true
+  fate_local : list_any (clash_commit c.own t) (commits_after t.st b) ≡ false → is_local c.own t ≡ true
       → fate c t waiting b ≡ placed (place (blocks t) (passes c t) waiting)
   unfolding fate
   fate_local p q = rw (p, q)
 
-  fate_global : any (clash_commit c.own t) (commits_after t.st b) ≡ false → is_local c.own t ≡ false
-      → fate c t waiting b ≡ cond (any (clash_entry c.own t) waiting) (abort 2) (join (length waiting))
+  fate_global : list_any (clash_commit c.own t) (commits_after t.st b) ≡ false → is_local c.own t ≡ false
+      → fate c t waiting b ≡ cond (list_any (clash_entry c.own t) waiting) (abort 2) (join (length waiting))
   unfolding fate
   fate_global p q = rw (p, q)
 
   -- One test after the other: what each fate says of the tests.
-  fate_one : fate c t waiting b ≡ abort 1 → any (clash_commit c.own t) (commits_after t.st b) ≡ true
+  fate_one : fate c t waiting b ≡ abort 1 → list_any (clash_commit c.own t) (commits_after t.st b) ≡ true
   fate_one h =
-      split (any (clash_commit c.own t) (commits_after t.st b)) (λ p. p)
+      split (list_any (clash_commit c.own t) (commits_after t.st b)) (λ p. p)
       (λ p. split (is_local c.own t)
       (λ q. absurd (placed_never (place (blocks t) (passes c t) waiting) 1 (omega arith) (sym (fate_local p q) ∙ h)))
-      (λ q. split (any (clash_entry c.own t) waiting)
+      (λ q. split (list_any (clash_entry c.own t) waiting)
       (λ r. absurd (reason_differs 2 1 (λ e. omega arith) (sym (fate_global p q ∙ rw r) ∙ h)))
       (λ r. absurd (abort_join 1 (length waiting) (sym h ∙ (fate_global p q ∙ rw r))))))
 
-  not_one : (f : Fate) → fate c t waiting b ≡ f → (abort 1 ≡ f → ⊥) → any (clash_commit c.own t) (commits_after t.st b) ≡ false
-  not_one f h n = split (any (clash_commit c.own t) (commits_after t.st b)) (λ p. absurd (n (sym (fate_first p) ∙ h))) (λ p. p)
+  not_one : (f : Fate) → fate c t waiting b ≡ f → (abort 1 ≡ f → ⊥) → list_any (clash_commit c.own t) (commits_after t.st b) ≡ false
+  not_one f h n = split (list_any (clash_commit c.own t) (commits_after t.st b)) (λ p. absurd (n (sym (fate_first p) ∙ h))) (λ p. p)
 
 -- A test that says exactly P is false exactly when P doesn't hold.
 not_exactly : {P : Type 0} (x : Bool) → x ≡ true ↔ P → x ≡ false ↔ (P → ⊥)
@@ -124,11 +124,11 @@ pub record Placed (c : Clock) (t : Transaction) (waiting : List Entry) (b : Book
 
 module _ (c : Clock) (t : Transaction) (waiting : List Entry) (b : Books) where
   -- shorter names for the three tests
-  first_test : any (clash_commit c.own t) (commits_after t.st b) ≡ false ↔ (ClashingCommit c.own t b → ⊥)
-  first_test = not_exactly (any (clash_commit c.own t) (commits_after t.st b)) (commits_exactly c.own t b)
+  first_test : list_any (clash_commit c.own t) (commits_after t.st b) ≡ false ↔ (ClashingCommit c.own t b → ⊥)
+  first_test = not_exactly (list_any (clash_commit c.own t) (commits_after t.st b)) (commits_exactly c.own t b)
 
-  second_test : any (clash_entry c.own t) waiting ≡ false ↔ (ClashingEntry c.own t waiting → ⊥)
-  second_test = not_exactly (any (clash_entry c.own t) waiting) (entries_exactly c.own t waiting)
+  second_test : list_any (clash_entry c.own t) waiting ≡ false ↔ (ClashingEntry c.own t waiting → ⊥)
+  second_test = not_exactly (list_any (clash_entry c.own t) waiting) (entries_exactly c.own t waiting)
 
   the_place : Least (blocks t) (passes c t) waiting (place (blocks t) (passes c t) waiting)
   the_place = place_least (blocks t) (passes c t) waiting
@@ -142,7 +142,7 @@ module _ (c : Clock) (t : Transaction) (waiting : List Entry) (b : Books) where
     λ h. let p = not_one c t waiting b (abort 2) h (reason_differs 1 2 (λ e. omega arith)) in
         split (is_local c.own t)
         (λ q. absurd (placed_never (place (blocks t) (passes c t) waiting) 2 (omega arith) (sym (fate_local c t waiting b p q) ∙ h)))
-        (λ q. split (any (clash_entry c.own t) waiting)
+        (λ q. split (list_any (clash_entry c.own t) waiting)
         (λ r. record { unclashed = first_test.0 p; global = q; clashing = (entries_exactly c.own t waiting).0 r })
         (λ r. absurd (abort_join 2 (length waiting) (sym h ∙ (fate_global c t waiting b p q ∙ rw r))))),
     λ k. fate_global c t waiting b (first_test.1 k.unclashed) k.global
@@ -158,7 +158,7 @@ module _ (c : Clock) (t : Transaction) (waiting : List Entry) (b : Books) where
           local = q;
           nowhere = (placed_abort c t waiting (place (blocks t) (passes c t) waiting) the_place).0 (sym (fate_local c t waiting b p q) ∙ h);
         })
-        (λ q. split (any (clash_entry c.own t) waiting)
+        (λ q. split (list_any (clash_entry c.own t) waiting)
         (λ r. absurd (reason_differs 2 3 (λ e. omega arith) (sym (fate_global c t waiting b p q ∙ rw r) ∙ h)))
         (λ r. absurd (abort_join 3 (length waiting) (sym h ∙ (fate_global c t waiting b p q ∙ rw r))))),
     λ k. fate_local c t waiting b (first_test.1 k.unclashed) k.local
@@ -173,7 +173,7 @@ module _ (c : Clock) (t : Transaction) (waiting : List Entry) (b : Books) where
           unclashed = first_test.0 p;
           stands = inl (q, (placed_join c t waiting (place (blocks t) (passes c t) waiting) the_place i).0 (sym (fate_local c t waiting b p q) ∙ h));
         })
-        (λ q. split (any (clash_entry c.own t) waiting)
+        (λ q. split (list_any (clash_entry c.own t) waiting)
         (λ r. absurd (abort_join 2 i (sym (fate_global c t waiting b p q ∙ rw r) ∙ h)))
         (λ r. record {
           unclashed = first_test.0 p;

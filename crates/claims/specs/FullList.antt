@@ -1,11 +1,10 @@
 -- 01's second fact: a full list at rest has a head that waits only for votes, since 31 deliveries have followed it.
 -- The invariant: the rt of a waiting global entry, and how many stand behind it, are together at most DC + 31.
-use Rattle.std.specs.Prelude.{ℕ, zero, suc, ◌+◌, ◌-◌, ◌≤◌, true, false, not, ◌&&◌, List, [], ◌∷◌, map, ◌≡◌, refl, leb, length}
+use Rattle.std.specs.Prelude.{ℕ, zero, suc, ◌+◌, ◌-◌, ◌≤◌, true, false, not, ◌&&◌, List, [], ◌∷◌, map, ◌≡◌, refl, leb, length, insert}
 use Rattle.std.proofs.Common.{⊎_elim, ltb-false, le-leb, arith}
 use Rattle.std.proofs.Math.Option.{none}
 use Rattle.std.proofs.lemmas.Bool.{not-false}
 use Rattle.std.proofs.lemmas.List.{length-map}
-use Rattle.rules.specs.Lists.{insert_at}
 use Rattle.rules.specs.Sizes.{most_k, most_waiting}
 use Rattle.rules.specs.Partitions.{Ballot, none_heard, any_outstanding}
 use Rattle.rules.specs.Ledger.{Transaction, Entry, Clock, Books, State, is_local, opening, sizes_fit}
@@ -33,7 +32,7 @@ spaced_later own dc (e ∷ es) h = (λ g. let room = h.0 g in omega arith, space
 
 -- A newcomer adds one behind those before it, and DC has risen by one.
 spaced_insert : (own dc i : ℕ) (e : Entry) (es : List Entry) → Spaced own dc es
-    → (is_local own e.transaction ≡ false → e.rt + (length es - i) ≤ dc + 1 + most_k) → Spaced own (dc + 1) (insert_at i e es)
+    → (is_local own e.transaction ≡ false → e.rt + (length es - i) ≤ dc + 1 + most_k) → Spaced own (dc + 1) (insert es i e)
 spaced_insert own dc zero e es h room = (λ g. let fits = room g in omega arith, spaced_later own dc es h)
 spaced_insert own dc (suc i) e [] h room = (λ g. let fits = room g in omega arith, tt)
 spaced_insert own dc (suc i) e (x ∷ es) h room = (

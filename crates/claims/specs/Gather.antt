@@ -1,9 +1,9 @@
 -- What a log's votes on an identity come to, one after the other, and that this is settled by which votes the log has.
 use Rattle.std.specs.Prelude.{ℕ, Bool, true, false, cond, ◌&&◌, ◌||◌, List, [], ◌∷◌, ◌++◌, ◌≡◌, refl, eqb}
+use Rattle.std.specs.List.{list_any}
 use Rattle.std.proofs.Math.Bool.{or-false, or_assoc, or_comm, and-true, and-false}
 use Rattle.std.proofs.Common.{sym, ap, ◌∙◌, eqb-true, eq-eqb, ne_eqb}
 use Rattle.std.proofs.lemmas.Bool.{eqb-false}
-use Rattle.rules.specs.Lists.{any}
 use Rattle.rules.specs.Partitions.{Ballot, aye, nay, Heard, none_heard, hear, names, with_partition}
 use Rattle.rules.specs.Events.{Event, delivery, vote, change, read}
 use Rattle.laws.specs.Tests.{split, or_left, or_right, any_append}
@@ -43,12 +43,12 @@ gather_append h i (vote j p b ∷ es) fs = gather_append (cond (eqb i j) (hear p
 gather_append h i (change k ∷ es) fs = gather_append h i es fs
 gather_append h i (read key st ∷ es) fs = gather_append h i es fs
 
-pub gather_none : (h : Heard) (i : ℕ) (es : List Event) → any (is_on i) es ≡ false → gather h i es ≡ h
+pub gather_none : (h : Heard) (i : ℕ) (es : List Event) → list_any (is_on i) es ≡ false → gather h i es ≡ h
 unfolding gather
 gather_none h i [] q = refl
 gather_none h i (delivery t ∷ es) q = gather_none h i es q
 gather_none h i (vote j p b ∷ es) q =
-    rw (or_left (eqb i j) (any (is_on i) es) q) (gather_none h i es (or_right (eqb i j) (any (is_on i) es) q))
+    rw (or_left (eqb i j) (list_any (is_on i) es) q) (gather_none h i es (or_right (eqb i j) (list_any (is_on i) es) q))
 gather_none h i (change k ∷ es) q = gather_none h i es q
 gather_none h i (read key st ∷ es) q = gather_none h i es q
 

@@ -1,8 +1,8 @@
 -- Closing in 01's words: when a head is ready, when it commits, and that closing leaves a list at rest.
 use Rattle.std.specs.Prelude.{ℕ, ◌≤◌, ◌<◌, true, false, not, ◌&&◌, List, [], ◌∷◌, ◌++◌, map, ◌↔◌, ◌⊎◌, ◌≡◌, refl, leb}
+use Rattle.std.specs.List.{list_all}
 use Rattle.std.proofs.Common.{inl, inr, ⊎_elim, ap, leb-true, le-leb}
 use Rattle.std.proofs.lemmas.Bool.{not-true, not-false}
-use Rattle.rules.specs.Lists.{all}
 use Rattle.rules.specs.Partitions.{names, other, Heard, heard_from, outstanding, any_outstanding, every_vote_yes}
 use Rattle.rules.specs.Ledger.{Transaction, Entry, Clock, Books, State, is_local, opening}
 use Rattle.rules.specs.Closing.{ready, commits, close, finish, books_after, Finish}
@@ -78,6 +78,21 @@ ready_commit_all_yes c e r l k p low o =
     ((commits_exactly c e).0 k))
     ((ready_exactly c e).0 r)
 
+-- "every vote was yes": each other involved partition said yes, and none of them said no too.
+abbrev pub EachSaidYes : ℕ → ℕ → Heard → Type 0
+EachSaidYes own set h = (p : ℕ) → p < 8 → other own set p ≡ true → (names h.ayes p ≡ true) × (names h.nays p ≡ false)
+
+-- "A global head commits if every vote was yes, otherwise it aborts": a ready one commits exactly when every vote was yes.
+pub ready_global_commits_exactly : (c : Clock) (e : Entry) → ready c e ≡ true → is_local c.own e.transaction ≡ false
+    → commits c e ≡ true ↔ EachSaidYes c.own e.transaction.partitions e.heard
+ready_global_commits_exactly c e r l = (
+  λ k p low o. (ready_commit_all_yes c e r l k p low o, none_no k p low o),
+  λ h. (commits_exactly c e).1 (inr (λ p low o. (h p low o).1)),
+)
+  where
+    none_no : commits c e ≡ true → NoneSaidNo c.own e.transaction.partitions e.heard
+    none_no k = ⊎_elim (λ q. never (is_local c.own e.transaction) q l) (λ n. n) ((commits_exactly c e).0 k)
+
 -- A list at rest: its head, if any, isn't ready.
 abbrev pub AtRest : Clock → List Entry → Type 0
 AtRest c [] = Unit {0}
@@ -93,7 +108,7 @@ close_rests c (e ∷ es) b =
 pub record TakenOff (c : Clock) (es : List Entry) (b : Books) : Type 0 where
   pub taken : List Entry
   pub all_of_it : es ≡ taken ++ (close c es b).waiting
-  pub were_ready : all (ready c) taken ≡ true
+  pub were_ready : list_all (ready c) taken ≡ true
   pub told : map (λ (f : Finish). f.transaction) (close c es b).finishes ≡ map (λ (e : Entry). e.transaction) taken
 
 pub close_takes : (c : Clock) (es : List Entry) (b : Books) → TakenOff c es b
@@ -105,7 +120,7 @@ close_takes c (e ∷ es) b =
     record {
       taken = e ∷ r.taken;
       all_of_it = rw (close_ready c e es b q) (ap (λ (l : List Entry). e ∷ l) r.all_of_it);
-      were_ready = and_both (ready c e) (all (ready c) r.taken) q r.were_ready;
+      were_ready = and_both (ready c e) (list_all (ready c) r.taken) q r.were_ready;
       told = rw (close_ready c e es b q) (ap (λ (l : List Transaction). e.transaction ∷ l) r.told);
     })
     (λ q. record { taken = []; all_of_it = rw (close_rest c e es b q); were_ready = refl; told = rw (close_rest c e es b q) })

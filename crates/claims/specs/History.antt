@@ -69,7 +69,7 @@ commit_books t h b k =
     }
 
 -- A head that is taken off lays itself on the history if it commits; closing does so head by head.
-finish_books : (c : Clock) (e : Entry) (b : Books) (h : List Transaction) → BooksOf h b
+pub finish_books : (c : Clock) (e : Entry) (b : Books) (h : List Transaction) → BooksOf h b
     → BooksOf (laid (finish c e b).outcome (finish c e b).transaction h) (books_after c e b)
 unfolding finish books_after
 finish_books c e b h k = split (commits c e) (λ q. rw q (commit_books e.transaction h b k)) (λ q. rw q k)
@@ -91,7 +91,7 @@ accepted_books e s h k =
     accepted_closes (λ r. BooksOf (history r.finishes h) r.next.books) e s (λ a c es. close_books c es s.books h k) (λ a. k)
 
 -- The history of a log: its books are those of what it committed.
-step_books : (e : Event) (s : State) (h : List Transaction) → BooksOf h s.books → BooksOf (history (step e s).finishes h) (step e s).next.books
+pub step_books : (e : Event) (s : State) (h : List Transaction) → BooksOf h s.books → BooksOf (history (step e s).finishes h) (step e s).next.books
 unfolding history
 step_books e s h k =
     refused_or (refusal e s) (λ q. rw (step_accepted e s q) (accepted_books e s h k)) (λ n q. rw (step_refused e s q) k)
@@ -112,8 +112,10 @@ log_books_from (e ∷ es) s h k =
 abbrev pub committed_by : List Event → State → List Transaction
 committed_by es s = history (finishes es s) []
 
+pub opening_books : (partitions own k : ℕ) → BooksOf [] (opening partitions own k).books
+unfolding opening folded
+opening_books partitions own k = record { counted = refl; kept = refl; folded_in = refl }
+
 pub log_books : (es : List Event) (partitions own k : ℕ)
     → BooksOf (committed_by es (opening partitions own k)) (last es (opening partitions own k)).books
-unfolding opening folded
-log_books es partitions own k =
-    log_books_from es (opening partitions own k) [] (record { counted = refl; kept = refl; folded_in = refl })
+log_books es partitions own k = log_books_from es (opening partitions own k) [] (opening_books partitions own k)

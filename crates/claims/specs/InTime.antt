@@ -1,8 +1,8 @@
 -- A test that computes, by which a log's votes come in time: what is asked of each event, given the events before it.
 use Rattle.std.specs.Prelude.{ℕ, Bool, true, false, not, ◌&&◌, ◌||◌, List, [], ◌∷◌, ◌++◌, ◌≡◌, refl, eqb, ltb}
+use Rattle.std.specs.List.{list_any}
 use Rattle.std.proofs.lemmas.Bool.{false≢true, eqb-false, not-true}
 use Rattle.std.proofs.Common.{append_assoc, append-nil, eqb-true, eq-eqb, ltb-true}
-use Rattle.rules.specs.Lists.{any}
 use Rattle.rules.specs.Partitions.{Ballot, other}
 use Rattle.rules.specs.Ledger.{Transaction, State}
 use Rattle.rules.specs.Events.{Event, delivery, vote, change, read}
@@ -61,9 +61,9 @@ not_reached s i before = of_delivery true (λ u. everywhere (above_dc s i (last 
 
 -- What is asked of each event.
 abbrev pub is_in_time : State → List Event → Event → Bool
-is_in_time s before (delivery t) = not (any (delivers t.identity) before)
+is_in_time s before (delivery t) = not (list_any (delivers t.identity) before)
 is_in_time s before (vote i p b) =
-    any (involves s.clock.own i p) before && (not (any (votes_on i p) before) && everywhere (not_reached s i) [] before)
+    list_any (involves s.clock.own i p) before && (not (list_any (votes_on i p) before) && everywhere (not_reached s i) [] before)
 is_in_time s before (change k) = true
 is_in_time s before (read key st) = true
 
@@ -92,17 +92,17 @@ module _ (s : State) (es : List Event) (test : all_in_time s es ≡ true) where
     asked : is_in_time s xs (vote i p b) ≡ true
     asked = everywhere_at (is_in_time s) es xs (vote i p b) ys test stands
 
-    asked_cast : any (involves s.clock.own i p) xs ≡ true
-    asked_cast = and_left (any (involves s.clock.own i p) xs) (not (any (votes_on i p) xs) && everywhere (not_reached s i) [] xs) asked
+    asked_cast : list_any (involves s.clock.own i p) xs ≡ true
+    asked_cast = and_left (list_any (involves s.clock.own i p) xs) (not (list_any (votes_on i p) xs) && everywhere (not_reached s i) [] xs) asked
 
-    asked_others : (not (any (votes_on i p) xs) && everywhere (not_reached s i) [] xs) ≡ true
-    asked_others = and_right (any (involves s.clock.own i p) xs) (not (any (votes_on i p) xs) && everywhere (not_reached s i) [] xs) asked
+    asked_others : (not (list_any (votes_on i p) xs) && everywhere (not_reached s i) [] xs) ≡ true
+    asked_others = and_right (list_any (involves s.clock.own i p) xs) (not (list_any (votes_on i p) xs) && everywhere (not_reached s i) [] xs) asked
 
-    asked_once : any (votes_on i p) xs ≡ false
-    asked_once = not-true (any (votes_on i p) xs) (and_left (not (any (votes_on i p) xs)) (everywhere (not_reached s i) [] xs) asked_others)
+    asked_once : list_any (votes_on i p) xs ≡ false
+    asked_once = not-true (list_any (votes_on i p) xs) (and_left (not (list_any (votes_on i p) xs)) (everywhere (not_reached s i) [] xs) asked_others)
 
     asked_early : everywhere (not_reached s i) [] xs ≡ true
-    asked_early = and_right (not (any (votes_on i p) xs)) (everywhere (not_reached s i) [] xs) asked_others
+    asked_early = and_right (not (list_any (votes_on i p) xs)) (everywhere (not_reached s i) [] xs) asked_others
 
   pub in_time_timed : Timed s es
   in_time_timed =
@@ -110,7 +110,7 @@ module _ (s : State) (es : List Event) (test : all_in_time s es ≡ true) where
         different = λ xs ys zs t u stands same.
             eqb-false t.identity u.identity
             (any_at (delivers u.identity) xs (delivery t) ys
-            (not-true (any (delivers u.identity) (xs ++ delivery t ∷ ys)) (everywhere_at (is_in_time s) es (xs ++ delivery t ∷ ys) (delivery u) zs test stands)))
+            (not-true (list_any (delivers u.identity) (xs ++ delivery t ∷ ys)) (everywhere_at (is_in_time s) es (xs ++ delivery t ∷ ys) (delivery u) zs test stands)))
             same;
         cast = λ xs ys i p b stands.
             let found = found_place (involves s.clock.own i p) xs (asked_cast xs ys i p b stands) in

@@ -1,10 +1,10 @@
 -- What is known at each place of a log whose votes come in time: the list is at rest, and each waiting entry was delivered before and holds the votes cast so far. Each event keeps it.
 use Rattle.std.specs.Prelude.{ℕ, true, cond, ◌&&◌, List, [], ◌∷◌, ◌++◌, map, ◌≡◌, refl, eqb}
+use Rattle.std.specs.List.{list_any}
 use Rattle.std.proofs.Math.Bool.{false, not}
 use Rattle.std.proofs.Common.{append_assoc, sym, ◌∙◌}
 use Rattle.std.proofs.Math.Option.{none, some}
 use Rattle.std.proofs.Math.Path.{ap}
-use Rattle.rules.specs.Lists.{any}
 use Rattle.rules.specs.Partitions.{Ballot, Heard, none_heard, other, hear, heard_from}
 use Rattle.rules.specs.Ledger.{Transaction, Entry, Clock, Books, State}
 use Rattle.rules.specs.Delivery.{Fate, abort, join, ticked, entered, fate, joined}
@@ -169,11 +169,11 @@ module _ (s : State) (es : List Event) (timed : Timed s es) (before rest : List 
     unfolding refusal checks vote_checks first_of
     vote_taken waits =
         let own : now.clock.own ≡ s.clock.own = ap (λ (x : State). x.clock.own) (sym known.here) ∙ own_stays before s in
-        let ours : any (λ e. is_for i e && not (other now.clock.own e.transaction.partitions p)) now.waiting ≡ false =
+        let ours : list_any (λ e. is_for i e && not (other now.clock.own e.transaction.partitions p)) now.waiting ≡ false =
         rw own (any_false (λ e. is_for i e && not (other s.clock.own e.transaction.partitions p)) now.waiting
         (each_weaken (Entered s before) (λ e. (is_for i e && not (other s.clock.own e.transaction.partitions p)) ≡ false)
         (λ e h. involved s es timed before e h i p b rest cut) now.waiting known.entries)) in
-        let new : any (λ e. is_for i e && heard_from e.heard p) now.waiting ≡ false =
+        let new : list_any (λ e. is_for i e && heard_from e.heard p) now.waiting ≡ false =
         any_false (λ e. is_for i e && heard_from e.heard p) now.waiting
         (each_weaken (Entered s before) (λ e. (is_for i e && heard_from e.heard p) ≡ false)
         (λ e h. unheard s es timed before e h i p b rest cut) now.waiting known.entries) in

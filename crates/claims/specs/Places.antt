@@ -1,11 +1,11 @@
 -- The place: over any two tests it is the least lawful one, and there is none exactly when no place is lawful. Then the same in 01's own words.
 use Rattle.std.specs.Prelude.{ℕ, zero, suc, ◌≤◌, Bool, true, false, not, ◌&&◌, ◌↔◌, ◌≡◌, leb, length, take, drop}
+use Rattle.std.specs.List.{list_any, list_all}
 use Rattle.std.proofs.Common.{zero-le, suc-le-suc, leb-true, le-leb, le_of_suc-le-suc}
 use mathlib.Core.List.{List, [], ◌∷◌, Memᴰ}
 use Rattle.std.proofs.Math.Option.{Option, none, some, map}
 use Rattle.std.proofs.Math.Path.{refl}
 use Rattle.std.proofs.lemmas.Bool.{not-true}
-use Rattle.rules.specs.Lists.{any, all}
 use Rattle.rules.specs.Keys.{meet}
 use Rattle.rules.specs.Ledger.{Transaction, Entry, Clock, keys_of, is_local}
 use Rattle.rules.specs.Place.{place}
@@ -16,8 +16,8 @@ use Rattle.laws.specs.Members.{any_none, any_nowhere, all_member, all_everywhere
 -- A place is lawful when no entry before it blocks, and every entry from it on may be passed.
 pub record Lawful {A : Type 0} (block pass : A → Bool) (es : List A) (i : ℕ) : Type 0 where
   pub within : i ≤ length es
-  pub before : any block (take i es) ≡ false
-  pub behind : all pass (drop i es) ≡ true
+  pub before : list_any block (take i es) ≡ false
+  pub behind : list_all pass (drop i es) ≡ true
 
 -- What the place must be: the least lawful one, or none where none is lawful.
 abbrev pub Least : {A : Type 0} (block pass : A → Bool) (es : List A) → Option ℕ → Type 0
@@ -26,31 +26,31 @@ Least block pass es (some i) = Lawful block pass es i × ((j : ℕ) → Lawful b
 
 module _ {A : Type 0} (block pass : A → Bool) where
   -- the first place, where all may be passed
-  least_first : (es : List A) → all pass es ≡ true → Least block pass es (some 0)
+  least_first : (es : List A) → list_all pass es ≡ true → Least block pass es (some 0)
   least_first es h = (record { within = zero-le; before = refl; behind = h }, λ j l. zero-le)
 
   -- no place, where the head may neither be passed with all behind it nor stood behind
-  not_first : (es : List A) → all pass es ≡ false → Lawful block pass es 0 → ⊥
-  not_first es h l = never (all pass es) l.behind h
+  not_first : (es : List A) → list_all pass es ≡ false → Lawful block pass es 0 → ⊥
+  not_first es h l = never (list_all pass es) l.behind h
 
-  none_lawful : (e : A) (es : List A) → all pass (e ∷ es) ≡ false → block e ≡ true → Least block pass (e ∷ es) none
+  none_lawful : (e : A) (es : List A) → list_all pass (e ∷ es) ≡ false → block e ≡ true → Least block pass (e ∷ es) none
   none_lawful e es h q zero l = not_first (e ∷ es) h l
-  none_lawful e es h q (suc j) l = never (block e) q (or_left (block e) (any block (take j es)) l.before)
+  none_lawful e es h q (suc j) l = never (block e) q (or_left (block e) (list_any block (take j es)) l.before)
 
   -- one place further, behind a head that doesn't block
   lawful_behind : (e : A) (es : List A) (i : ℕ) → block e ≡ false → Lawful block pass es i → Lawful block pass (e ∷ es) (suc i)
   lawful_behind e es i q l =
-      record { within = suc-le-suc l.within; before = or_neither (block e) (any block (take i es)) q l.before; behind = l.behind }
+      record { within = suc-le-suc l.within; before = or_neither (block e) (list_any block (take i es)) q l.before; behind = l.behind }
 
   lawful_rest : (e : A) (es : List A) (i : ℕ) → Lawful block pass (e ∷ es) (suc i) → Lawful block pass es i
   lawful_rest e es i l =
       record {
         within = le_of_suc-le-suc l.within;
-        before = or_right (block e) (any block (take i es)) l.before;
+        before = or_right (block e) (list_any block (take i es)) l.before;
         behind = l.behind;
       }
 
-  least_behind : (e : A) (es : List A) → all pass (e ∷ es) ≡ false → block e ≡ false → (o : Option ℕ)
+  least_behind : (e : A) (es : List A) → list_all pass (e ∷ es) ≡ false → block e ≡ false → (o : Option ℕ)
       → Least block pass es o → Least block pass (e ∷ es) (map suc o)
   least_behind e es h q none k =
       elim [ zero ↦ λ l. not_first (e ∷ es) h l | suc j ↦ λ l. k j (lawful_rest e es j l) ]
@@ -63,7 +63,7 @@ module _ {A : Type 0} (block pass : A → Bool) where
   unfolding place
   place_least [] = least_first [] refl
   place_least (e ∷ es) =
-      split (all pass (e ∷ es)) (λ p. rw p (least_first (e ∷ es) p))
+      split (list_all pass (e ∷ es)) (λ p. rw p (least_first (e ∷ es) p))
       (λ p. split (block e) (λ q. rw (p, q) (none_lawful e es p q)) (λ q. rw (p, q) (least_behind e es p q (place block pass es) (place_least es))))
 
 -- "no entry before i writes a key it reads, and every entry from i on is global, has DC <= rt, and has read no key that it writes", with i "from 0 to the

@@ -3,13 +3,13 @@ use Rattle.std.specs.Prelude.{ℕ, zero, suc, ◌-◌, ◌≤◌, ◌<◌, ◌�
 use mathlib.Core.List.Memᴰ
 use mathlib.Core.List.{List, [], ◌∷◌, ◌++◌, map, Memᴰ}
 use Rattle.std.proofs.Common.{inl, inr, ⊎_elim, sym, ap, ◌∙◌, eqb-true, ltb-false, leb-false, arith, get_or-set_same, get_or-set_other}
-use Rattle.std.proofs.Math.Option.{Option, none, some}
+use Rattle.std.proofs.Math.Option.{Option, none, some, get_or as else_value}
 use Rattle.std.proofs.lemmas.Bool.{eqb-false}
 use Rattle.std.proofs.lemmas.List.{length-replicate}
 use Rattle.rules.specs.Sizes.{keys, most_kept, floor}
 use Rattle.rules.specs.Ledger.{Write, Transaction, Commit, Books, State, opening}
 use Rattle.rules.specs.Closing.{written, folded, kept_of}
-use Rattle.rules.specs.Read.{put_at, else_value, newest_value, read_at}
+use Rattle.rules.specs.Read.{put_at, newest_value, read_at}
 use Rattle.rules.specs.Events.{Event, Step, read, Snapshot, snapshot, value, accepted, take_read}
 use Rattle.rules.specs.Refusals.{refusal, checks, read_checks, step}
 use Rattle.rules.specs.Logs.{last}

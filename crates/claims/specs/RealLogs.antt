@@ -9,7 +9,7 @@ use Rattle.rules.specs.Events.{Event, vote, waits, aborted, voted}
 use Rattle.rules.specs.Logs.{steps}
 use Rattle.rules.specs.Cases.{seen_of, computed, deliver, ◌puts◌, ◌ends◌}
 use Rattle.rules.specs.WholeRun.{whole_run}
-use Rattle.claims.specs.Timing.{moves, is_vote, has_vote, is_waiting, threshold, own_answers, Alike}
+use Rattle.claims.specs.Timing.{moves, is_vote, has_vote, is_waiting, threshold, own_answers, Timed, Alike}
 use Rattle.claims.specs.InTime.{everywhere, all_in_time, in_time_timed}
 use Rattle.claims.specs.Demand3.{demand_3}
 
@@ -40,6 +40,13 @@ early_vote_in_time : all_in_time (opening 2 0 1) early_vote ≡ true
 unfolding computed early_vote everywhere is_waiting threshold
 early_vote_in_time = refl
 
+-- So both meet the condition of demand 3.
+pub whole_run_timed : Timed (opening 2 0 1) whole_run
+whole_run_timed = in_time_timed (opening 2 0 1) whole_run whole_run_in_time
+
+pub early_vote_timed : Timed (opening 2 0 1) early_vote
+early_vote_timed = in_time_timed (opening 2 0 1) early_vote early_vote_in_time
+
 same_moves : moves whole_run ≡ moves early_vote
 unfolding moves whole_run early_vote
 same_moves = refl
@@ -49,10 +56,7 @@ unfolding has_vote is_vote whole_run early_vote
 same_votes i p b = refl
 
 pub real_logs_alike : Alike (opening 2 0 1) whole_run early_vote
-real_logs_alike =
-    demand_3 2 0 1 whole_run early_vote
-    (in_time_timed (opening 2 0 1) whole_run whole_run_in_time) (in_time_timed (opening 2 0 1) early_vote early_vote_in_time)
-    same_moves same_votes
+real_logs_alike = demand_3 2 0 1 whole_run early_vote whole_run_timed early_vote_timed same_moves same_votes
 
 -- A vote behind the next delivery is too late: 12 finds 10 waiting, and is aborted for another reason.
 unfoldable pub late_vote : List Event

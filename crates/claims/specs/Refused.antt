@@ -1,10 +1,10 @@
 -- 01, "Numbers the desk hands back": a number is given exactly when its condition holds and no earlier check applies, and the desk of any state is the
 -- step of a sound one. That a refused event changes nothing is `step_refused` and, for any state and finish list, `desk_refused`.
 use Rattle.std.specs.Prelude.{ℕ, ◌≤◌, Bool, true, false, not, List, [], ◌∷◌, ◌++◌, ◌↔◌, ◌≡◌, refl}
+use Rattle.std.specs.List.{list_any}
 use Rattle.std.proofs.Math.Option.{Option, none, some}
 use Rattle.std.proofs.Common.{sym, ap, ◌∙◌, arith, le-ltb}
 use Rattle.std.proofs.lemmas.Bool.{not-false}
-use Rattle.rules.specs.Lists.{any}
 use Rattle.rules.specs.Sizes.{most_waiting}
 use Rattle.rules.specs.Ledger.{State, Clock, sizes_fit}
 use Rattle.rules.specs.Partitions.{Ballot}
@@ -26,7 +26,7 @@ pub record Given (cs : List Check) (n : ℕ) : Type 0 where
   pub stands : cs ≡ earlier ++ check ∷ later
   pub numbered : check.number ≡ n
   pub met : check.holds ≡ true
-  pub none_earlier : any applies earlier ≡ false
+  pub none_earlier : list_any applies earlier ≡ false
 
 -- A number and no number are different answers.
 none_or_some {ℓ} : {C : Type ℓ} (o : Option ℕ) (n : ℕ) → o ≡ none → o ≡ some n → C
@@ -41,12 +41,12 @@ first_fails : (c : Check) (cs : List Check) → c.holds ≡ false → first_of (
 unfolding first_of
 first_fails c cs q = rw q
 
-first_behind : (earlier : List Check) (c : Check) (later : List Check) → any applies earlier ≡ false → c.holds ≡ true
+first_behind : (earlier : List Check) (c : Check) (later : List Check) → list_any applies earlier ≡ false → c.holds ≡ true
     → first_of (earlier ++ c ∷ later) ≡ some c.number
 first_behind [] c later h q = first_holds c later q
 first_behind (d ∷ earlier) c later h q =
-    first_fails d (earlier ++ c ∷ later) (or_left d.holds (any applies earlier) h)
-    ∙ first_behind earlier c later (or_right d.holds (any applies earlier) h) q
+    first_fails d (earlier ++ c ∷ later) (or_left d.holds (list_any applies earlier) h)
+    ∙ first_behind earlier c later (or_right d.holds (list_any applies earlier) h) q
 
 first_given : (cs : List Check) (n : ℕ) → first_of cs ≡ some n → Given cs n
 unfolding first_of
@@ -63,7 +63,7 @@ first_given (c ∷ cs) n h =
       stands = ap (λ l. c ∷ l) rest.stands;
       numbered = rest.numbered;
       met = rest.met;
-      none_earlier = or_neither c.holds (any applies rest.earlier) q rest.none_earlier;
+      none_earlier = or_neither c.holds (list_any applies rest.earlier) q rest.none_earlier;
     })
 
 given_first : (cs : List Check) (n : ℕ) → Given cs n → first_of cs ≡ some n
@@ -74,20 +74,20 @@ pub given_exactly : (cs : List Check) (n : ℕ) → (first_of cs ≡ some n → 
 given_exactly cs n = (first_given cs n, given_first cs n)
 
 -- No number is given exactly when no check applies.
-none_holds : (cs : List Check) → first_of cs ≡ none → any applies cs ≡ false
+none_holds : (cs : List Check) → first_of cs ≡ none → list_any applies cs ≡ false
 unfolding first_of
 none_holds [] h = refl
 none_holds (c ∷ cs) h =
     split c.holds (λ q. none_or_some (first_of (c ∷ cs)) c.number h (first_holds c cs q))
-    (λ q. or_neither c.holds (any applies cs) q (none_holds cs (sym (first_fails c cs q) ∙ h)))
+    (λ q. or_neither c.holds (list_any applies cs) q (none_holds cs (sym (first_fails c cs q) ∙ h)))
 
-none_first : (cs : List Check) → any applies cs ≡ false → first_of cs ≡ none
+none_first : (cs : List Check) → list_any applies cs ≡ false → first_of cs ≡ none
 unfolding first_of
 none_first [] h = refl
 none_first (c ∷ cs) h =
-    first_fails c cs (or_left c.holds (any applies cs) h) ∙ none_first cs (or_right c.holds (any applies cs) h)
+    first_fails c cs (or_left c.holds (list_any applies cs) h) ∙ none_first cs (or_right c.holds (list_any applies cs) h)
 
-pub none_exactly : (cs : List Check) → first_of cs ≡ none ↔ any applies cs ≡ false
+pub none_exactly : (cs : List Check) → first_of cs ≡ none ↔ list_any applies cs ≡ false
 none_exactly cs = (none_holds cs, none_first cs)
 
 -- Checks of which none applies, one by one.
@@ -95,9 +95,9 @@ abbrev pub NoneApplies : List Check → Type 0
 NoneApplies [] = Unit
 NoneApplies (c ∷ cs) = (c.holds ≡ false) × NoneApplies cs
 
-none_of : (cs : List Check) → any applies cs ≡ false → NoneApplies cs
+none_of : (cs : List Check) → list_any applies cs ≡ false → NoneApplies cs
 none_of [] h = tt
-none_of (c ∷ cs) h = (or_left c.holds (any applies cs) h, none_of cs (or_right c.holds (any applies cs) h))
+none_of (c ∷ cs) h = (or_left c.holds (list_any applies cs) h, none_of cs (or_right c.holds (list_any applies cs) h))
 
 pub none_applies : (cs : List Check) → first_of cs ≡ none → NoneApplies cs
 none_applies cs h = none_of cs (none_holds cs h)

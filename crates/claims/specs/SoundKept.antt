@@ -1,10 +1,11 @@
 -- What soundness asks of lists is kept when an element is put in at a place and when the head is taken off; so joining and closing keep a state sound.
-use Rattle.std.specs.Prelude.{ℕ, zero, suc, ◌+◌, ◌<◌, false, not, List, [], ◌∷◌, ◌≡◌, refl, eqb, ℤ, length, drop}
+use Rattle.std.specs.Prelude.{ℕ, zero, suc, ◌+◌, ◌<◌, false, not, List, [], ◌∷◌, ◌≡◌, refl, eqb, ℤ, length, drop, insert}
+use Rattle.std.specs.List.{list_any, list_all}
 use Rattle.std.proofs.Math.Bool.{true}
 use Rattle.std.proofs.Common.{sym, ap, ◌∙◌, arith, length-set, ne_eqb}
 use Rattle.std.proofs.Math.ListN.{length-take}
 use Rattle.std.proofs.lemmas.Bool.{eqb-false, not-true}
-use Rattle.rules.specs.Lists.{any, all, member, insert_at}
+use Rattle.rules.specs.Lists.{member}
 use Rattle.rules.specs.Sizes.{most_waiting, most_kept, most_dc}
 use Rattle.rules.specs.Ledger.{Write, Entry, Commit, Clock, Books, keys_of}
 use Rattle.rules.specs.Delivery.{Fate, abort, join, ticked, joined}
@@ -21,24 +22,24 @@ unlike : (a b : ℕ) → eqb a b ≡ false → eqb b a ≡ false
 unlike a b h = ne_eqb b a (λ q. eqb-false a b h (sym q))
 
 -- A number that is new to a list of different ones may be put in anywhere.
-pub different_insert : (i x : ℕ) (xs : List ℕ) → member x xs ≡ false → different xs ≡ true → different (insert_at i x xs) ≡ true
+pub different_insert : (i x : ℕ) (xs : List ℕ) → member x xs ≡ false → different xs ≡ true → different (insert xs i x) ≡ true
 unfolding different
 different_insert zero x xs new h = and_both (not (member x xs)) (different xs) (ap not new) h
 different_insert (suc i) x [] new h = refl
 different_insert (suc i) x (y ∷ ys) new h =
-    and_both (not (member y (insert_at i x ys))) (different (insert_at i x ys))
+    and_both (not (member y (insert ys i x))) (different (insert ys i x))
     (ap not
     (none_insert (eqb y) i x ys (unlike x y (or_left (eqb x y) (member x ys) new))
     (not-true (member y ys) (and_left (not (member y ys)) (different ys) h))))
     (different_insert i x ys (or_right (eqb x y) (member x ys) new) (and_right (not (member y ys)) (different ys) h))
 
 -- An identity that no entry waits under is not among the identities.
-pub new_identity : (i : ℕ) (es : List Entry) → any (is_for i) es ≡ false → member i (identities es) ≡ false
+pub new_identity : (i : ℕ) (es : List Entry) → list_any (is_for i) es ≡ false → member i (identities es) ≡ false
 new_identity i [] h = refl
 new_identity i (e ∷ es) h =
     or_neither (eqb i e.transaction.identity) (member i (identities es))
-    (unlike e.transaction.identity i (or_left (is_for i e) (any (is_for i) es) h))
-    (new_identity i es (or_right (is_for i e) (any (is_for i) es) h))
+    (unlike e.transaction.identity i (or_left (is_for i e) (list_any (is_for i) es) h))
+    (new_identity i es (or_right (is_for i e) (list_any (is_for i) es) h))
 
 -- DC only rises, so an rt that was near enough stays so.
 entry_later : (partitions own dc : ℕ) (e : Entry) → good_entry partitions own dc e ≡ true → good_entry partitions own (dc + 1) e ≡ true
@@ -70,8 +71,8 @@ tick_sound c waiting b l h =
 
 -- A good newcomer under a new identity joins at any place.
 insert_sound : (c : Clock) (i : ℕ) (e : Entry) (waiting : List Entry) (b : Books) → Room c waiting b
-    → any (is_for e.transaction.identity) waiting ≡ false → good_entry c.partitions c.own c.dc e ≡ true
-    → Sound c waiting b → Sound c (insert_at i e waiting) b
+    → list_any (is_for e.transaction.identity) waiting ≡ false → good_entry c.partitions c.own c.dc e ≡ true
+    → Sound c waiting b → Sound c (insert waiting i e) b
 insert_sound c i e waiting b room new good h =
     record {
       sizes = h.sizes;
@@ -89,7 +90,7 @@ insert_sound c i e waiting b room new good h =
     }
 
 pub join_sound : (c : Clock) (f : Fate) (e : Entry) (waiting : List Entry) (b : Books) → Room c waiting b
-    → any (is_for e.transaction.identity) waiting ≡ false → good_entry c.partitions c.own c.dc e ≡ true
+    → list_any (is_for e.transaction.identity) waiting ≡ false → good_entry c.partitions c.own c.dc e ≡ true
     → Sound c waiting b → Sound c (joined f e waiting) b
 unfolding joined
 join_sound c (abort reason) e waiting b room new good h = h
@@ -128,7 +129,7 @@ module _ (c : Clock) (e : Entry) (es : List Entry) (b : Books) (h : Sound c (e �
         kept_good = h.kept_good;
         apart = and_right (not (member e.transaction.identity (identities es))) (different (identities es)) h.apart;
         entries_good =
-            and_right (good_entry c.partitions c.own c.dc e) (all (good_entry c.partitions c.own c.dc) es) h.entries_good;
+            and_right (good_entry c.partitions c.own c.dc e) (list_all (good_entry c.partitions c.own c.dc) es) h.entries_good;
       }
 
   -- The head is taken off and commits.
@@ -137,7 +138,7 @@ module _ (c : Clock) (e : Entry) (es : List Entry) (b : Books) (h : Sound c (e �
   commit_off_sound =
       let rest : Sound c es b = abort_off_sound in
       let head_good : good_entry c.partitions c.own c.dc e ≡ true =
-      and_left (good_entry c.partitions c.own c.dc e) (all (good_entry c.partitions c.own c.dc) es) h.entries_good in
+      and_left (good_entry c.partitions c.own c.dc e) (list_all (good_entry c.partitions c.own c.dc) es) h.entries_good in
       record {
         sizes = h.sizes;
         dc_fits = h.dc_fits;
@@ -147,7 +148,7 @@ module _ (c : Clock) (e : Entry) (es : List Entry) (b : Books) (h : Sound c (e �
         sum_fits = omega arith;
         kept_good =
             all_take good_commit most_kept (kept_of e.transaction ∷ b.kept)
-            (and_both (good_commit (kept_of e.transaction)) (all good_commit b.kept)
+            (and_both (good_commit (kept_of e.transaction)) (list_all good_commit b.kept)
             (kept_of_good c.partitions c.own c.dc e head_good) h.kept_good);
         apart = rest.apart;
         entries_good = rest.entries_good;

@@ -1,8 +1,8 @@
 -- The conditions of a sound state, of sizes that fit, and of a good waiting entry, each as a fact of its own under a name.
 use Rattle.std.specs.Prelude.{ℕ, ◌+◌, ◌≤◌, ◌<◌, min, Bool, true, false, not, ◌&&◌, List, [], ◌∷◌, ◌≡◌, eqb, leb, ltb, length}
+use Rattle.std.specs.List.{list_all}
 use Rattle.std.proofs.Common.{ap, leb-true, le-leb, ltb-true, lt-ltb, eqb-true, eq-eqb}
 use Rattle.std.proofs.lemmas.Bool.{not-true}
-use Rattle.rules.specs.Lists.{all}
 use Rattle.rules.specs.Sizes.{keys, most_partitions, most_waiting, most_kept, most_k, most_dc}
 use Rattle.rules.specs.Partitions.{bad_set, Heard, from_others}
 use Rattle.rules.specs.Keys.{good_set}
@@ -70,9 +70,9 @@ pub record Sound (c : Clock) (waiting : List Entry) (b : Books) : Type 0 where
   pub values_fit : length b.values ≡ keys
   pub kept_number : length b.kept ≡ min b.sc most_kept
   pub sum_fits : b.sc + length waiting ≤ c.dc
-  pub kept_good : all good_commit b.kept ≡ true
+  pub kept_good : list_all good_commit b.kept ≡ true
   pub apart : different (identities waiting) ≡ true
-  pub entries_good : all (good_entry c.partitions c.own c.dc) waiting ≡ true
+  pub entries_good : list_all (good_entry c.partitions c.own c.dc) waiting ≡ true
 
 -- The tests of "sizes fit the table" behind those of opening, and of soundness behind it.
 abbrev fits_tests : State → List Bool
@@ -82,9 +82,9 @@ abbrev sound_tests : State → List Bool
 sound_tests s =
     kept_count s
     ∷ counted s
-    ∷ all good_commit s.books.kept
+    ∷ list_all good_commit s.books.kept
     ∷ different (identities s.waiting)
-    ∷ all (good_entry s.clock.partitions s.clock.own s.clock.dc) s.waiting
+    ∷ list_all (good_entry s.clock.partitions s.clock.own s.clock.dc) s.waiting
     ∷ []
 
 pub sound_facts : (s : State) → sound s ≡ true → Sound s.clock s.waiting s.books

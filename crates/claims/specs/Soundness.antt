@@ -1,11 +1,11 @@
 -- 01: "Opening gives a sound state and every event keeps one." An accepted newcomer is good, a vote that is taken comes from another involved
 -- partition, and a change keeps k in its range; joining and closing are in SoundKept.
 use Rattle.std.specs.Prelude.{ℕ, ◌+◌, ◌^◌, ◌<◌, Bool, true, false, not, ◌&&◌, ◌||◌, List, [], ◌∷◌, map, ◌≡◌, refl, eqb, pos, length}
+use Rattle.std.specs.List.{list_any, list_all}
 use Rattle.std.proofs.Math.Option.{none}
 use Rattle.std.proofs.Common.{ap, ◌∙◌, arith, leb-false, ltb-false, eqb-true}
 use Rattle.std.proofs.lemmas.List.{length-map, length-replicate}
 use Rattle.std.proofs.lemmas.Bool.{lt-leb, eqb-false, not-true, not-false}
-use Rattle.rules.specs.Lists.{any, all}
 use Rattle.rules.specs.Sizes.{keys, most_partitions, most_waiting, most_k, most_dc}
 use Rattle.rules.specs.Partitions.{names, with_partition, beyond, bad_set, every_partition, other, Ballot, aye, nay, Heard, none_heard, hear, from_others}
 use Rattle.rules.specs.Keys.{bad_keys, too_many, good_set}
@@ -39,7 +39,7 @@ none_from_others own set = refl
 record Taken (c : Clock) (t : Transaction) (s : State) : Type 0 where
   dc_open : s.clock.dc < most_dc
   room : Room c s.waiting s.books
-  new : any (is_for (entered c t none_heard).transaction.identity) s.waiting ≡ false
+  new : list_any (is_for (entered c t none_heard).transaction.identity) s.waiting ≡ false
   good : good_entry c.partitions c.own c.dc (entered c t none_heard) ≡ true
 
 taken : (t : Transaction) (s : State) → refusal (delivery t) s ≡ none → Holds s → Taken (ticked s.clock) t s
@@ -100,11 +100,11 @@ unfolding from_others
 others_with own set p voters l involved h =
     let few : voters < 2 ^ most_partitions = leb-false (2 ^ most_partitions) voters (not-true (beyond most_partitions voters) (and_left _ _ h)) in
     and_both (not (beyond most_partitions (with_partition p voters)))
-    (all (λ q. not (names (with_partition p voters) q) || other own set q) every_partition)
+    (list_all (λ q. not (names (with_partition p voters) q) || other own set q) every_partition)
     (ap not (lt-leb (2 ^ most_partitions) (with_partition p voters) (with_below most_partitions p voters l few)))
     (all_weaken (λ q. not (names voters q) || other own set q) (λ q. not (names (with_partition p voters) q) || other own set q)
     (λ q. involved_with own set p q voters involved) every_partition
-    (and_right (not (beyond most_partitions voters)) (all (λ q. not (names voters q) || other own set q) every_partition) h))
+    (and_right (not (beyond most_partitions voters)) (list_all (λ q. not (names voters q) || other own set q) every_partition) h))
 
 -- The entry of the vote's identity with the vote, and any other entry as it was.
 abbrev pub hearing : ℕ → Ballot → Entry → Entry
@@ -160,11 +160,11 @@ vote_good partitions own k dc i p b e sizes h involved =
 
 -- A test of each element is kept by a map that keeps it where another test fails.
 pub all_map : {A : Type 0} (f bad : A → Bool) (g : A → A) → ((x : A) → f x ≡ true → bad x ≡ false → f (g x) ≡ true)
-    → (xs : List A) → all f xs ≡ true → any bad xs ≡ false → all f (map g xs) ≡ true
+    → (xs : List A) → list_all f xs ≡ true → list_any bad xs ≡ false → list_all f (map g xs) ≡ true
 all_map f bad g keeps [] h n = refl
 all_map f bad g keeps (x ∷ xs) h n =
-    and_both (f (g x)) (all f (map g xs)) (keeps x (and_left (f x) (all f xs) h) (or_left (bad x) (any bad xs) n))
-    (all_map f bad g keeps xs (and_right (f x) (all f xs) h) (or_right (bad x) (any bad xs) n))
+    and_both (f (g x)) (list_all f (map g xs)) (keeps x (and_left (f x) (list_all f xs) h) (or_left (bad x) (list_any bad xs) n))
+    (all_map f bad g keeps xs (and_right (f x) (list_all f xs) h) (or_right (bad x) (list_any bad xs) n))
 
 -- A vote changes no identity.
 pub identities_vote : (i p : ℕ) (b : Ballot) (es : List Entry) → identities (map (with_vote i p b) es) ≡ identities es

@@ -1,6 +1,6 @@
 -- The words of demand 3: which deliveries, changes and votes a log has, when a vote comes in time, and what two runs must have in common.
 use Rattle.std.specs.Prelude.{ℕ, ◌+◌, ◌<◌, Bool, true, false, ◌&&◌, List, [], ◌∷◌, ◌++◌, ◌≡◌, eqb}
-use Rattle.rules.specs.Lists.{any}
+use Rattle.std.specs.List.{list_any}
 use Rattle.rules.specs.Partitions.{Ballot, aye, nay, other}
 use Rattle.rules.specs.Ledger.{Transaction, State}
 use Rattle.rules.specs.Events.{Event, delivery, vote, change, read, Answer, refused, waits, aborted, voted, changed, value}
@@ -29,7 +29,7 @@ is_vote i p b (change k) = false
 is_vote i p b (read key st) = false
 
 unfoldable pub has_vote : ℕ → ℕ → Ballot → List Event → Bool
-has_vote i p b es = any (is_vote i p b) es
+has_vote i p b es = list_any (is_vote i p b) es
 
 -- A delivery that was neither refused nor aborted at delivery.
 unfoldable pub is_waiting : Answer → Bool

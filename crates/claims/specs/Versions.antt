@@ -1,4 +1,5 @@
--- Reason 1 against the committed history: the kept commits of version st+1 to SC are all that the log committed under those versions.
+-- Reason 1 against the committed history: the kept commits of version st+1 to SC are all that the log committed under those versions. And the version
+-- that a finish tells is the one under which the log committed it.
 use Rattle.std.specs.Prelude.{ℕ, zero, suc, ◌+◌, ◌≤◌, ◌<◌, ◌↔◌, ◌≡◌, refl, length}
 use mathlib.Core.List.{List, [], ◌∷◌, ◌++◌, map, head-eq_of_cons-eq, tail-eq_of_cons-eq, nil≢cons}
 use Rattle.std.proofs.Math.Logic.Iff
@@ -8,15 +9,17 @@ use Rattle.std.proofs.Math.Path.{ap, subst}
 use native.Mathlib.Omega.{arith}
 use Rattle.std.proofs.Math.ListN.{take, length-map}
 use Rattle.rules.specs.Sizes.{most_kept, floor}
-use Rattle.rules.specs.Ledger.{Transaction, Commit, Books, State, keys_of, opening}
-use Rattle.rules.specs.Closing.{kept_of}
-use Rattle.rules.specs.Events.{Event, delivery}
+use Rattle.rules.specs.Ledger.{Transaction, Entry, Commit, Clock, Books, State, keys_of, opening}
+use Rattle.rules.specs.Closing.{ready, commits, kept_of, Outcome, version, aborts, Finish, finish, books_after, close}
+use Rattle.rules.specs.Events.{Event, delivery, closing}
 use Rattle.rules.specs.Refusals.{refusal, checks, delivery_checks, step}
-use Rattle.rules.specs.Logs.{last}
+use Rattle.rules.specs.Logs.{last, finishes}
+use Rattle.laws.specs.Tests.{split}
+use Rattle.claims.specs.Steps.{close_nil, close_ready, close_rest, accepted_closes, step_accepted, step_refused, refused_or}
 use Rattle.claims.specs.Refused.{none_applies}
 use Rattle.claims.specs.Clashes.{Clash, ClashingCommit}
 use Rattle.claims.specs.Deliveries.{abort_answer, reason_1_exactly}
-use Rattle.claims.specs.History.{BooksOf, committed_by, log_books}
+use Rattle.claims.specs.History.{BooksOf, laid, history, finish_books, step_books, committed_by, opening_books, log_books}
 
 -- What a history committed under a version: the first one has version 1.
 pub record CommittedAs (h : List Transaction) (v : ℕ) (t : Transaction) : Type 0 where
@@ -122,3 +125,70 @@ reason_1_of_a_log es partitions own k t taken =
     let books = log_books es partitions own k in
     Iff.trans (reason_1_exactly t s taken)
     (from_kept s.clock.own t h s.books books, to_kept s.clock.own t h s.books books (snapshot_kept t s taken))
+
+-- Finishes laid on a history: each commit is told as the version after those that the history has.
+abbrev NextVersion : List Transaction → Outcome → Type 0
+NextVersion h (version v) = v ≡ suc (length h)
+NextVersion h aborts = Unit {0}
+
+abbrev Numbered : List Finish → List Transaction → Type 0
+Numbered [] h = Unit {0}
+Numbered (f ∷ fs) h = NextVersion h f.outcome × Numbered fs (laid f.outcome f.transaction h)
+
+numbered_append : (fs gs : List Finish) (h : List Transaction) → Numbered fs h → Numbered gs (history fs h) → Numbered (fs ++ gs) h
+unfolding history
+numbered_append [] gs h m n = n
+numbered_append (f ∷ fs) gs h m n = (m.0, numbered_append fs gs (laid f.outcome f.transaction h) m.1 n)
+
+finish_numbered : (c : Clock) (e : Entry) (b : Books) (h : List Transaction) → BooksOf h b → NextVersion h (finish c e b).outcome
+unfolding finish
+finish_numbered c e b h k = let counted = k.counted in split (commits c e) (λ q. rw q (omega arith)) (λ q. rw q tt)
+
+close_numbered : (c : Clock) (es : List Entry) (b : Books) (h : List Transaction) → BooksOf h b → Numbered (close c es b).finishes h
+close_numbered c [] b h k = rw (close_nil c b) tt
+close_numbered c (e ∷ es) b h k =
+    split (ready c e)
+    (λ q. rw (close_ready c e es b q) (
+      finish_numbered c e b h k,
+      close_numbered c es (books_after c e b) (laid (finish c e b).outcome (finish c e b).transaction h) (finish_books c e b h k),
+    ))
+    (λ q. rw (close_rest c e es b q) tt)
+
+log_numbered : (es : List Event) (s : State) (h : List Transaction) → BooksOf h s.books → Numbered (finishes es s) h
+unfolding finishes closing
+log_numbered [] s h k = tt
+log_numbered (e ∷ es) s h k =
+    numbered_append (step e s).finishes (finishes es (step e s).next) h
+    (refused_or (refusal e s)
+    (λ q. rw (step_accepted e s q)
+    (accepted_closes (λ r. Numbered r.finishes h) e s (λ a c waiting. close_numbered c waiting s.books h k) (λ a. tt)))
+    (λ n q. rw (step_refused e s q) tt))
+    (log_numbered es (step e s).next (history (step e s).finishes h) (step_books e s h k))
+
+-- A history only grows.
+still_there : (fs : List Finish) (h : List Transaction) (v : ℕ) (t : Transaction) → CommittedAs h v t → CommittedAs (history fs h) v t
+unfolding history
+still_there [] h v t c = c
+still_there (f ∷ fs) h v t c = still_there fs (laid f.outcome f.transaction h) v t (one f.outcome f.transaction)
+  where
+    one : (o : Outcome) (u : Transaction) → CommittedAs (laid o u h) v t
+    one (version w) u =
+        let counted = c.counted in
+        record { newer = u ∷ c.newer; older = c.older; stands = ap (λ (l : List Transaction). u ∷ l) c.stands; counted = omega arith }
+    one aborts u = c
+
+told_as : (before after : List Finish) (f : Finish) (v : ℕ) (h : List Transaction) → f.outcome ≡ version v → Numbered (before ++ f ∷ after) h
+    → CommittedAs (history (before ++ f ∷ after) h) v f.transaction
+unfolding history
+told_as [] after f v h told n =
+    let next : v ≡ suc (length h) = rw told at n.0 in
+    rw told (still_there after (f.transaction ∷ h) v f.transaction (record { newer = []; older = h; stands = refl; counted = omega arith }))
+told_as (g ∷ before) after f v h told n = told_as before after f v (laid g.outcome g.transaction h) told n.1
+
+-- "A commit raises SC by 1, and that is its version.": of any log from opening, a finish that is told as version v is the v-th that the log committed.
+pub told_version_committed : (es : List Event) (partitions own k : ℕ) (before after : List Finish) (f : Finish) (v : ℕ)
+    → finishes es (opening partitions own k) ≡ before ++ f ∷ after → f.outcome ≡ version v
+    → CommittedAs (committed_by es (opening partitions own k)) v f.transaction
+told_version_committed es partitions own k before after f v stands told =
+    rw stands
+    (told_as before after f v [] told (rw stands at (log_numbered es (opening partitions own k) [] (opening_books partitions own k))))

@@ -1,6 +1,7 @@
 -- A delivery on the tables, where none is refused: the newcomer's row, closing, the counters. The state and the finishes after it are the rules'.
 use Prim.Native.Nat.{ℕ, suc, ◌+◌, ◌-◌, ◌*◌, ◌≤◌, ◌<◌}
-use Rattle.std.specs.Prelude.{Bool, true, false, ◌≡◌, ℤ, get_or}
+use Rattle.std.specs.Prelude.{Bool, true, false, ◌≡◌, ℤ, get_or, insert}
+use Rattle.std.specs.List.{list_any}
 use mathlib.Core.List.{List}
 use Rattle.std.proofs.Common.{⊎_elim, ◌∙◌, subst, ltb-false, leb-false}
 use Rattle.std.proofs.Math.Option.{none}
@@ -8,7 +9,6 @@ use Rattle.std.proofs.Math.Path.{refl, ap, ap₂}
 use native.Mathlib.Omega.{arith}
 use Rattle.std.proofs.Math.Dec.{eqb}
 use Rattle.std.proofs.Math.ListN.{length}
-use Rattle.rules.specs.Lists.{any, insert_at}
 use Rattle.rules.specs.Place.{place}
 use Rattle.rules.specs.Sizes.{most_keys, most_waiting, most_kept, floor}
 use Rattle.rules.specs.Partitions.{only, none_heard}
@@ -109,11 +109,11 @@ pub fate_kept : (own dc sc n set st : ℕ) (reads keys book : List ℕ)
     → fated (fate_of (row_fate own dc sc n set st reads keys book)) ≡ row_fate own dc sc n set st reads keys book
 unfolding row_fate
 fate_kept own dc sc n set st reads keys book =
-    split (any (row_clash (not (eqb set (only own))) reads keys) (tab (sc - st) (λ j. kept_words book (sc - j))))
+    split (list_any (row_clash (not (eqb set (only own))) reads keys) (tab (sc - st) (λ j. kept_words book (sc - j))))
     (λ q. rw q)
     (λ q. split (eqb set (only own))
     (λ r. rw (q, r) (placed_fated (place (row_blocks reads) (row_passes own dc keys) (tab n (waiting_words book)))))
-    (λ r. split (any (row_clash (not (eqb set (only own))) reads keys) (tab n (waiting_words book))) (λ s. rw (q, s, r)) (λ s. rw (q, s, r))))
+    (λ r. split (list_any (row_clash (not (eqb set (only own))) reads keys) (tab n (waiting_words book))) (λ s. rw (q, s, r)) (λ s. rw (q, s, r))))
 
 answer_said : (c : Clock) (set m : ℕ) (f : Fate) → fated (fate_of f) ≡ f
     → delivered_said (Ok (delivered_answer c set (fate_of f) m)) ≡ spoken c.dc (eqb set (only c.own)) f
@@ -182,7 +182,7 @@ module _ (identity set st : ℕ) (reads keys : List ℕ) (amounts : List ℤ) (b
       let e : n + 1 ≡ suc n = omega arith in
       ap (λ (m : ℕ). waiting_view m (joined_book book n i (first_words identity set st (c.dc + c.k) reads keys) reads keys) (joined_sums sums n i amounts)) e
       ∙ (joined_waiting book sums n i identity set st (c.dc + c.k) reads keys amounts h.long h.long_sums ok.list_open (within i q) ok.few_reads ok.few_keys h.same
-      ∙ ap (λ (x : Entry). insert_at i x (waiting_view n book sums)) (newcomer_entered c identity set st reads keys amounts))
+      ∙ ap (λ (x : Entry). insert (waiting_view n book sums) i x) (newcomer_entered c identity set st reads keys amounts))
 
   desk_books : (f : Fate) → the_fate ≡ f → books_view (desk_at f).sc (desk_at f).book (desk_at f).sums ≡ books_view sc book sums
   unfolding delivery_desk
@@ -199,14 +199,14 @@ module _ (identity set st : ℕ) (reads keys : List ℕ) (amounts : List ℤ) (b
       → Sound c (waiting_view (desk_at f).waiting (desk_at f).book (desk_at f).sums) (books_view (desk_at f).sc (desk_at f).book (desk_at f).sums)
   desk_sound f q = rw (desk_list f q, desk_books f q) (before_closing f)
 
-  desk_length : (f : Fate) → the_fate ≡ f → length (desk_at f).book ≡ length book
+  pub desk_length : (f : Fate) → the_fate ≡ f → length (desk_at f).book ≡ length book
   unfolding delivery_desk
   desk_length (abort reason) q = refl
   desk_length (join i) q =
       length_joined book sums n i (first_words identity set st (c.dc + c.k) reads keys) reads keys amounts h.long h.long_sums ok.list_open (within i q)
       refl ok.few_reads ok.few_keys h.same
 
-  desk_length_sums : (f : Fate) → the_fate ≡ f → length (desk_at f).sums ≡ length sums
+  pub desk_length_sums : (f : Fate) → the_fate ≡ f → length (desk_at f).sums ≡ length sums
   unfolding delivery_desk
   desk_length_sums (abort reason) q = refl
   desk_length_sums (join i) q =
@@ -235,7 +235,7 @@ module _ (identity set st : ℕ) (reads keys : List ℕ) (amounts : List ℤ) (b
   desk_untold (abort reason) = refl
   desk_untold (join i) = refl
 
-  desk_finishes : (f : Fate) → (desk_at f).finishes ≡ fin
+  pub desk_finishes : (f : Fate) → (desk_at f).finishes ≡ fin
   unfolding delivery_desk
   desk_finishes (abort reason) = refl
   desk_finishes (join i) = refl

@@ -1,7 +1,7 @@
 -- Judging a newcomer on rows, one way out after the other.
 use Rattle.std.specs.Prelude.{ℕ, ◌+◌, ◌-◌, ◌≤◌, ◌<◌, Bool, true, false, not, List, ◌≡◌, refl, eqb}
+use Rattle.std.specs.List.{list_any}
 use Rattle.std.proofs.Math.Option.{Option, none, some}
-use Rattle.rules.specs.Lists.{any}
 use Rattle.rules.specs.Partitions.{only}
 use Rattle.rules.specs.Place.{place}
 use Rattle.rules.specs.Delivery as rules
@@ -29,10 +29,10 @@ pub record Judgeable (own sc n st : ℕ) (book : List ℕ) : Type 0 where
 
 module _ (own dc sc n set st : ℕ) (reads keys book : List ℕ) (local : Bool) (is_local : local ≡ eqb set (only own)) where
   abbrev commits : Bool → Bool
-  commits l = any (row_clash (not l) reads keys) (tab (sc - st) (λ j. kept_words book (sc - j)))
+  commits l = list_any (row_clash (not l) reads keys) (tab (sc - st) (λ j. kept_words book (sc - j)))
 
   abbrev entries : Bool → Bool
-  entries l = any (row_clash (not l) reads keys) (tab n (waiting_words book))
+  entries l = list_any (row_clash (not l) reads keys) (tab n (waiting_words book))
 
   -- clashes with a commit
   pub judged_by_commit : commits local ≡ true → Err Commit ≡ fate_of (row_fate own dc sc n set st reads keys book)

@@ -11,3 +11,8 @@ pub mod Public
 pub mod Reads
 pub mod Named
 pub mod Meanings
+pub mod OneAnswer
+pub mod Lengths
+pub mod Calls
+pub mod CallMeans
+pub mod Demands

@@ -1,11 +1,11 @@
 -- The public operations: a number first, then the event. Each way out is one equation.
 use Rattle.std.specs.Prelude.{ℕ, zero, suc, ◌+◌, ◌*◌, ◌/◌, ◌≤◌, ◌<◌, Bool, true, false, ◌&&◌, ◌||◌, List, [], eqb, ltb, ℤ, length}
+use Rattle.std.specs.List.{list_any}
 use Rattle.std.proofs.Math.Bool.{not}
 use Rattle.std.proofs.Math.Path.{◌≡◌, sym}
 use Rattle.std.proofs.Common.{◌∙◌, arith}
 use borrow.Author.Tests.{ltb-false, eqb-true, eq-eqb, ne_eqb, not-false}
 use Rattle.std.proofs.Math.ListN.{get_or}
-use Rattle.rules.specs.Lists.{any}
 use Rattle.rules.specs.Sizes.{most_waiting}
 use Rattle.rules.specs.Partitions.{names, other}
 use Rattle.rules.specs.Ledger.{State, Entry, sizes_fit}
@@ -133,11 +133,11 @@ module _ (k : ℕ) (book : List ℕ) (sums : List ℤ) (fin : List ℕ) (n : ℕ
   change_takes r none h = rw (← is_number, none) h
 
 -- Vote: the row of its identity is good, and its partition is one of the eight.
-any_tab_at : {A : Type 0} (f : A → Bool) (m : ℕ) (g : ℕ → A) → any f (tab m g) ≡ false → (i : ℕ) → i < m → f (g i) ≡ false
+any_tab_at : {A : Type 0} (f : A → Bool) (m : ℕ) (g : ℕ → A) → list_any f (tab m g) ≡ false → (i : ℕ) → i < m → f (g i) ≡ false
 unfolding tab
 any_tab_at f zero g h i low = absurd (omega arith)
-any_tab_at f (suc m) g h zero low = or_left (f (g 0)) (any f (tab m (λ j. g (suc j)))) h
-any_tab_at f (suc m) g h (suc i) low = any_tab_at f m (λ j. g (suc j)) (or_right (f (g 0)) (any f (tab m (λ j. g (suc j)))) h) i (omega arith)
+any_tab_at f (suc m) g h zero low = or_left (f (g 0)) (list_any f (tab m (λ j. g (suc j)))) h
+any_tab_at f (suc m) g h (suc i) low = any_tab_at f m (λ j. g (suc j)) (or_right (f (g 0)) (list_any f (tab m (λ j. g (suc j)))) h) i (omega arith)
 
 row_word : (book : List ℕ) (i j : ℕ) → j < 24 → get_or (waiting_words book i) j 0 ≡ get_or book (6 + 24 * i + j) 0
 unfolding waiting_words

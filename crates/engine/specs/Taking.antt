@@ -1,9 +1,9 @@
 -- Taking a delivery that nothing refuses: what each call asks, and what the two ways leave.
 use Rattle.std.specs.Prelude.{ℕ, ◌+◌, ◌≤◌, ◌<◌, true, false, not, ◌||◌, List, ◌≡◌, refl, ℤ, length, get_or}
+use Rattle.std.specs.List.{list_any}
 use Rattle.std.proofs.Math.Path.{sym}
 use Rattle.std.proofs.Common.{ap, ◌∙◌, arith}
 use borrow.Author.Tests.{not-false, eqb-false}
-use Rattle.rules.specs.Lists.{any}
 use Rattle.rules.specs.Sizes.{most_dc}
 use Rattle.rules.specs.Keys.{bad_key, bad_keys, ascending}
 use Rattle.rules.specs.Ledger as rules
@@ -53,7 +53,7 @@ module _ (identity set st : ℕ) (reads keys : List ℕ) (amounts : List ℤ) (b
 
   ascends : (xs : List ℕ) → bad_keys xs ≡ false → ascending xs ≡ true
   unfolding bad_keys
-  ascends xs q = not-false (ascending xs) (or_right (any bad_key xs) (not (ascending xs)) q)
+  ascends xs q = not-false (ascending xs) (or_right (list_any bad_key xs) (not (ascending xs)) q)
 
   -- the numbers that the code computes with
   pub record Numbers : Type 0 where

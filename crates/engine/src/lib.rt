@@ -5,6 +5,7 @@
 
 mod answers;
 mod judging;
+pub mod looking;
 mod taking;
 
 ghost use Rattle.std.specs.Prelude.{[], ◌≡◌};
@@ -13,10 +14,9 @@ ghost use Rattle.engine.specs.Operations.{left, delivering, voting, changing, re
 
 pub use answers::{Delivered, Reading, Reason};
 pub use masks::Ballot;
-use masks::Partition;
 pub use refusing::Refusal;
 pub use tables::{Sizes, Transaction};
-use tables::{Book, Kept, Ledger, Lent, Sums};
+use tables::{Ledger, Lent};
 
 // "Delivery."
 pub fn deliver(
@@ -27,9 +27,7 @@ pub fn deliver(
 ) -> Result<Delivered, Refusal>
     ensures { left result book.new sums.new finishes.new ≡ delivering t.entry.identity t.entry.set t.entry.st t.entry.reads.now t.entry.keys.now t.entry.amounts.now book.old sums.old finishes.old }
 {
-    refusing::check_delivery(t, Lent { book, sums }, finishes.len())?;
-    let mut ledger = Ledger { book, sums };
-    Ok(taking::take_delivery(t, &mut ledger, finishes))
+    looking::deliver(t, book, sums, finishes, false)
 }
 
 // "Vote. Yes or no, from another partition of a waiting global transaction." How many finishes were written.
@@ -43,10 +41,7 @@ pub fn vote(
 ) -> Result<u32, Refusal>
     ensures { left result book.new sums.new finishes.new ≡ voting identity partition (says_yes ballot) book.old sums.old finishes.old }
 {
-    let i = refusing::check_vote(identity, partition, Lent { book, sums }, finishes.len())?;
-    let from = Partition { number: partition };
-    let mut ledger = Ledger { book, sums };
-    Ok(taking::take_vote(i, from, ballot, &mut ledger, finishes))
+    looking::vote(identity, partition, ballot, book, sums, finishes, false)
 }
 
 // "Threshold change. The new k holds for later deliveries only." How many finishes were written.
@@ -58,34 +53,28 @@ pub fn change(
 ) -> Result<u32, Refusal>
     ensures { left result book.new sums.new finishes.new ≡ changing k book.old sums.old finishes.old }
 {
-    refusing::check_change(k, Lent { book, sums }, finishes.len())?;
-    let mut ledger = Ledger { book, sums };
-    Ok(taking::take_change(k, &mut ledger, finishes))
+    looking::change(k, book, sums, finishes, false)
 }
 
 // "Read of a key at st: the value of the newest version that is at most st. It changes nothing." Without a st it is read at SC.
 pub fn read(key: u32, st: Option<u32>, book: &[u32], sums: &[i64]) -> Reading
     ensures { result ≡ reading key st book.now sums.now }
 {
-    match refusing::check_read(key, st, Lent { book, sums }) {
-        Err(refusal) => Reading::Refused(refusal),
-        Ok(version) => {
-            let book = Book { words: book };
-            let kept = Kept {
-                book,
-                sc: book.sc(),
-            };
-            let sums = Sums { amounts: sums };
-            Reading::Value(keeping::read_at(kept, sums, key, version), version)
-        }
-    }
+    looking::read(key, st, book, sums, false)
 }
 
 // Opening: so many partitions, our own one of them, the threshold k. The tables may hold anything before.
 pub fn open(sizes: Sizes, book: &mut [u32], sums: &mut [i64]) -> Result<(), Refusal>
     ensures { left result book.new sums.new [] ≡ opened sizes.partitions sizes.own sizes.k book.old sums.old }
 {
-    refusing::check_opening(sizes, Lent { book, sums })?;
+    refusing::check_opening(
+        sizes,
+        Lent {
+            book,
+            sums,
+            looked: false,
+        },
+    )?;
     let mut ledger = Ledger { book, sums };
     opening::open_tables(&mut ledger, sizes);
     Ok(())

@@ -6,9 +6,10 @@ use Rattle.std.proofs.Common.{sym, ap₂, ◌∙◌}
 use Rattle.std.proofs.Math.Path.{ap}
 use native.Mathlib.Omega.{arith}
 use Rattle.std.proofs.Math.ListN.{get_or}
+use Rattle.std.proofs.Math.Option.{get_or as else_value}
 use Rattle.rules.specs.Sizes.{keys, most_kept, floor}
 use Rattle.rules.specs.Ledger.{Commit}
-use Rattle.rules.specs.Read.{put_at, else_value, newest_value, read_at}
+use Rattle.rules.specs.Read.{put_at, newest_value, read_at}
 use Rattle.laws.specs.Cuts.{cut, get_or_cut}
 use Rattle.laws.specs.Tabs.{tab, tab_as, tab_same, drop_tab}
 use Rattle.laws.specs.Options.{given, given_some, given_none}

@@ -8,7 +8,7 @@ use Rattle.std.proofs.lemmas.Cmp.{ranked}
 use Rattle.std.proofs.Math.Option.{Option, none, some}
 use borrow.Author.Tests.{ltb-true, lt-ltb, eq-eqb, ne_eqb}
 use native.Mathlib.Omega.{arith}
-use Rattle.rules.specs.Lists.{member, is_some as some_found}
+use Rattle.rules.specs.Lists.{member, some_found}
 use Rattle.rules.specs.Keys.{above, ascending, shared, meet}
 use Rattle.laws.specs.Tests.{split, and_left, and_right, and_both}
 use Rattle.laws.specs.Members.{member_exactly, above_larger}

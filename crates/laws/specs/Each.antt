@@ -1,9 +1,9 @@
 -- A property of every element of a list, what a test doesn't see of a list, and a place at which a test holds. Nothing here is about the ledger.
-use Rattle.std.specs.Prelude.{ℕ, zero, suc, Bool, true, false, ◌⊎◌, ◌≡◌, refl}
+use Rattle.std.specs.Prelude.{ℕ, zero, suc, Bool, true, false, ◌⊎◌, ◌≡◌, refl, insert}
+use Rattle.std.specs.List.{list_any, list_all}
 use Rattle.std.proofs.lemmas.Bool.{false≢true}
 use mathlib.Core.List.{List, [], ◌∷◌, ◌++◌, map, head-eq_of_cons-eq, tail-eq_of_cons-eq, append_assoc}
 use Rattle.std.proofs.Common.{inl, inr, sym, ap, ◌∙◌}
-use Rattle.rules.specs.Lists.{any, all, insert_at}
 use Rattle.laws.specs.Tests.{split, or_left, or_right, or_neither}
 
 -- The element at which a test holds, with what stands before and behind it.
@@ -36,33 +36,33 @@ module _ {A : Type 0} where
   each_both P Q (x ∷ xs) g h = ((g.0, h.0), each_both P Q xs g.1 h.1)
 
   -- a newcomer joins a list
-  pub each_insert : (P : A → Type 0) (i : ℕ) (x : A) (xs : List A) → P x → Each P xs → Each P (insert_at i x xs)
+  pub each_insert : (P : A → Type 0) (i : ℕ) (x : A) (xs : List A) → P x → Each P xs → Each P (insert xs i x)
   each_insert P zero x xs p h = (p, h)
   each_insert P (suc i) x [] p h = (p, h)
   each_insert P (suc i) x (y ∷ xs) p h = (h.0, each_insert P i x xs p h.1)
 
   -- a test that holds of none
-  pub each_false : (f : A → Bool) (xs : List A) → any f xs ≡ false → Each (λ x. f x ≡ false) xs
+  pub each_false : (f : A → Bool) (xs : List A) → list_any f xs ≡ false → Each (λ x. f x ≡ false) xs
   each_false f [] h = tt
-  each_false f (x ∷ xs) h = (or_left (f x) (any f xs) h, each_false f xs (or_right (f x) (any f xs) h))
+  each_false f (x ∷ xs) h = (or_left (f x) (list_any f xs) h, each_false f xs (or_right (f x) (list_any f xs) h))
 
-  pub any_false : (f : A → Bool) (xs : List A) → Each (λ x. f x ≡ false) xs → any f xs ≡ false
+  pub any_false : (f : A → Bool) (xs : List A) → Each (λ x. f x ≡ false) xs → list_any f xs ≡ false
   any_false f [] h = refl
-  any_false f (x ∷ xs) h = or_neither (f x) (any f xs) h.0 (any_false f xs h.1)
+  any_false f (x ∷ xs) h = or_neither (f x) (list_any f xs) h.0 (any_false f xs h.1)
 
   -- two tests that agree wherever a third fails
-  pub all_same_where : (f g k : A → Bool) → ((x : A) → k x ≡ false → f x ≡ g x) → (xs : List A) → any k xs ≡ false → all f xs ≡ all g xs
+  pub all_same_where : (f g k : A → Bool) → ((x : A) → k x ≡ false → f x ≡ g x) → (xs : List A) → list_any k xs ≡ false → list_all f xs ≡ list_all g xs
   all_same_where f g k same [] h = refl
   all_same_where f g k same (x ∷ xs) h =
-      rw (same x (or_left (k x) (any k xs) h), all_same_where f g k same xs (or_right (k x) (any k xs) h))
+      rw (same x (or_left (k x) (list_any k xs) h), all_same_where f g k same xs (or_right (k x) (list_any k xs) h))
 
   -- a map that a test doesn't see, that another map doesn't see, that changes nothing
   module _ (f : A → A) where
-    pub any_unseen : (k : A → Bool) → ((x : A) → k (f x) ≡ k x) → (xs : List A) → any k (map f xs) ≡ any k xs
+    pub any_unseen : (k : A → Bool) → ((x : A) → k (f x) ≡ k x) → (xs : List A) → list_any k (map f xs) ≡ list_any k xs
     any_unseen k same [] = refl
     any_unseen k same (x ∷ xs) = rw (same x, any_unseen k same xs)
 
-    pub all_unseen : (k : A → Bool) → ((x : A) → k (f x) ≡ k x) → (xs : List A) → all k (map f xs) ≡ all k xs
+    pub all_unseen : (k : A → Bool) → ((x : A) → k (f x) ≡ k x) → (xs : List A) → list_all k (map f xs) ≡ list_all k xs
     all_unseen k same [] = refl
     all_unseen k same (x ∷ xs) = rw (same x, all_unseen k same xs)
 
@@ -75,7 +75,7 @@ module _ {A : Type 0} where
     map_same (x ∷ xs) h = rw (h.0, map_same xs h.1)
 
   -- a test that holds of some element holds at a place
-  pub found_place : (f : A → Bool) (xs : List A) → any f xs ≡ true → Found f xs
+  pub found_place : (f : A → Bool) (xs : List A) → list_any f xs ≡ true → Found f xs
   found_place f [] h = absurd (false≢true h)
   found_place f (x ∷ xs) h =
       split (f x)

@@ -1,45 +1,46 @@
 -- What the tests on lists say of their members: some element, every element, a key that two lists share.
 use Rattle.std.specs.Prelude.{ℕ, ◌≤◌, ◌<◌, Bool, true, false, ◌↔◌, ◌≡◌, refl, eqb, ltb}
+use Rattle.std.specs.List.{list_any, list_all}
 use mathlib.Core.List.Memᴰ
 use mathlib.Core.List.{List, [], ◌∷◌, Memᴰ}
 use Rattle.std.proofs.Common.{⊎_elim, sym, ap, ◌∙◌, subst, eqb-true, eq-eqb, ltb-true, arith}
 use Rattle.std.proofs.Math.Option.{some}
-use Rattle.rules.specs.Lists.{any, all, member}
+use Rattle.rules.specs.Lists.{member}
 use Rattle.rules.specs.Keys.{above, ascending, shared, meet}
 use Rattle.laws.specs.Tests.{split, never, and_left, and_right, and_both, or_cases, or_first, or_second}
 
 module _ {A : Type 0} (f : A → Bool) where
   -- some element passes the test
-  pub any_found : (xs : List A) → any f xs ≡ true → (x : A) × Memᴰ x xs × (f x ≡ true)
+  pub any_found : (xs : List A) → list_any f xs ≡ true → (x : A) × Memᴰ x xs × (f x ≡ true)
   any_found [] h = never false h refl
   any_found (x ∷ xs) h =
       ⊎_elim (λ q. (x, Memᴰ.head refl, q)) (λ q. let r = any_found xs q in (r.0, Memᴰ.tail r.1, r.2))
-      (or_cases (f x) (any f xs) h)
+      (or_cases (f x) (list_any f xs) h)
 
-  pub any_member : (x : A) (xs : List A) → Memᴰ x xs → f x ≡ true → any f xs ≡ true
+  pub any_member : (x : A) (xs : List A) → Memᴰ x xs → f x ≡ true → list_any f xs ≡ true
   any_member x [] m h = absurd (Memᴰ.not-nil m)
   any_member x (y ∷ xs) m h =
-      ⊎_elim (λ q. or_first (f y) (any f xs) (ap f (sym q) ∙ h)) (λ q. or_second (f y) (any f xs) (any_member x xs q h))
+      ⊎_elim (λ q. or_first (f y) (list_any f xs) (ap f (sym q) ∙ h)) (λ q. or_second (f y) (list_any f xs) (any_member x xs q h))
       (Memᴰ.cases_cons m)
 
   -- no element passes it
-  pub any_none : (xs : List A) → any f xs ≡ false → (x : A) → Memᴰ x xs → f x ≡ false
-  any_none xs h x m = split (f x) (λ q. never (any f xs) (any_member x xs m q) h) (λ q. q)
+  pub any_none : (xs : List A) → list_any f xs ≡ false → (x : A) → Memᴰ x xs → f x ≡ false
+  any_none xs h x m = split (f x) (λ q. never (list_any f xs) (any_member x xs m q) h) (λ q. q)
 
-  pub any_nowhere : (xs : List A) → ((x : A) → Memᴰ x xs → f x ≡ false) → any f xs ≡ false
-  any_nowhere xs k = split (any f xs) (λ q. let r = any_found xs q in never (f r.0) r.2 (k r.0 r.1)) (λ q. q)
+  pub any_nowhere : (xs : List A) → ((x : A) → Memᴰ x xs → f x ≡ false) → list_any f xs ≡ false
+  any_nowhere xs k = split (list_any f xs) (λ q. let r = any_found xs q in never (f r.0) r.2 (k r.0 r.1)) (λ q. q)
 
   -- every element passes it
-  pub all_member : (xs : List A) → all f xs ≡ true → (x : A) → Memᴰ x xs → f x ≡ true
+  pub all_member : (xs : List A) → list_all f xs ≡ true → (x : A) → Memᴰ x xs → f x ≡ true
   all_member [] h x m = absurd (Memᴰ.not-nil m)
   all_member (y ∷ xs) h x m =
-      ⊎_elim (λ q. ap f q ∙ and_left (f y) (all f xs) h) (λ q. all_member xs (and_right (f y) (all f xs) h) x q)
+      ⊎_elim (λ q. ap f q ∙ and_left (f y) (list_all f xs) h) (λ q. all_member xs (and_right (f y) (list_all f xs) h) x q)
       (Memᴰ.cases_cons m)
 
-  pub all_everywhere : (xs : List A) → ((x : A) → Memᴰ x xs → f x ≡ true) → all f xs ≡ true
+  pub all_everywhere : (xs : List A) → ((x : A) → Memᴰ x xs → f x ≡ true) → list_all f xs ≡ true
   all_everywhere [] k = refl
   all_everywhere (x ∷ xs) k =
-      and_both (f x) (all f xs) (k x (Memᴰ.head refl)) (all_everywhere xs (λ y m. k y (Memᴰ.tail m)))
+      and_both (f x) (list_all f xs) (k x (Memᴰ.head refl)) (all_everywhere xs (λ y m. k y (Memᴰ.tail m)))
 
 pub member_exactly : (x : ℕ) (ys : List ℕ) → member x ys ≡ true ↔ Memᴰ x ys
 member_exactly x ys = (
@@ -54,7 +55,7 @@ Common xs ys = (key : ℕ) × Memᴰ key xs × Memᴰ key ys
 pub Apart : List ℕ → List ℕ → Type 0
 Apart xs ys = (key : ℕ) → Memᴰ key xs → Memᴰ key ys → ⊥
 
-pub meet_any : (xs ys : List ℕ) → meet xs ys ≡ any (λ x. member x ys) xs
+pub meet_any : (xs ys : List ℕ) → meet xs ys ≡ list_any (λ x. member x ys) xs
 unfolding meet shared
 meet_any [] ys = refl
 meet_any (x ∷ xs) ys = split (member x ys) (λ q. rw q) (λ q. rw q (meet_any xs ys))

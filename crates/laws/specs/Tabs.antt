@@ -1,12 +1,11 @@
 -- The list of a function's first values, and what taking, dropping, mapping, testing and inserting make of it.
 use Prim.Native.Nat.{ℕ, zero, suc, ◌+◌, ◌-◌, ◌≤◌, ◌<◌, min}
 use mathlib.Core.List.{List, [], ◌∷◌, ◌++◌, map}
-use Rattle.std.specs.Prelude.{◌≡◌, length, take, drop}
+use Rattle.std.specs.Prelude.{◌≡◌, length, take, drop, insert}
 use Rattle.std.proofs.Math.Path.{refl, ap, ap₂}
 use Rattle.std.proofs.Common.{◌∙◌, le_of_suc-le-suc, not-suc-le-zero, drop-cons}
 use native.Mathlib.Omega.{arith}
 use Rattle.std.proofs.Math.ListN.{get_or}
-use Rattle.rules.specs.Lists.{insert_at}
 use Rattle.laws.specs.Cuts.{cut}
 
 shift : (o j : ℕ) → o + suc j ≡ suc o + j
@@ -71,7 +70,7 @@ module _ {A : Type 0} where
 
   -- a newcomer put in at a place
   pub tab_insert : (n i : ℕ) (x : A) (f g : ℕ → A) → i ≤ n → ((j : ℕ) → j < i → g j ≡ f j) → g i ≡ x
-      → ((j : ℕ) → i ≤ j → j < n → g (suc j) ≡ f j) → tab (suc n) g ≡ insert_at i x (tab n f)
+      → ((j : ℕ) → i ≤ j → j < n → g (suc j) ≡ f j) → tab (suc n) g ≡ insert (tab n f) i x
   unfolding tab
   tab_insert n zero x f g low before at behind =
       ap₂ (λ (y : A) (l : List A). y ∷ l) at (tab_same n (λ j. g (suc j)) f (λ j h. behind j (omega arith) h))

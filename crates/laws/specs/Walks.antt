@@ -1,5 +1,5 @@
--- The library's walks over a list and over a range of numbers, as the rules' tests of all its elements.
-use Rattle.std.specs.Prelude.{ℕ, zero, suc, ◌+◌, Bool, List, [], ◌∷◌, ◌≡◌, refl}
+-- The library's walks over a range of numbers, as tests of all elements of a list.
+use Rattle.std.specs.Prelude.{ℕ, zero, suc, ◌+◌, Bool, ◌≡◌, refl}
 use Rattle.std.proofs.Common.{ap, ap₂, sym, ◌∙◌, arith}
 use Rattle.std.proofs.Math.Bool.{◌&&◌, ◌||◌}
 use Rattle.std.specs.List.{list_any, list_all, range_with_len}
@@ -10,7 +10,6 @@ use Rattle.std.proofs.lemmas.Iterator.{YieldsList-from_range}
 use Rattle.std.proofs.lemmas.Iterator.Search.{any_from_yields_List, all_from_yields_List}
 use Rattle.std.proofs.iter.Yields.{nat_range_steps}
 use denote.Param.Members.{Mut}
-use Rattle.rules.specs.Lists.{any, all}
 use Rattle.laws.specs.Tabs.{tab}
 
 same_place : (a : ℕ) → a ≡ a + 0
@@ -23,23 +22,15 @@ next_zero : (i : ℕ) → i ≡ 0 + i
 next_zero i = omega arith
 
 module _ {A : Type 0} where
-  pub any_list : (f : A → Bool) (xs : List A) → list_any f xs ≡ any f xs
-  any_list f [] = refl
-  any_list f (x ∷ xs) = ap (λ (b : Bool). f x || b) (any_list f xs)
-
-  pub all_list : (f : A → Bool) (xs : List A) → list_all f xs ≡ all f xs
-  all_list f [] = refl
-  all_list f (x ∷ xs) = ap (λ (b : Bool). f x && b) (all_list f xs)
-
   module _ (f : A → Bool) (g : ℕ → A) where
-    any_from : (h : ℕ → A) (a n : ℕ) → ((i : ℕ) → g (a + i) ≡ h i) → list_any (λ i. f (g i)) (range_with_len a n) ≡ any f (tab n h)
+    any_from : (h : ℕ → A) (a n : ℕ) → ((i : ℕ) → g (a + i) ≡ h i) → list_any (λ i. f (g i)) (range_with_len a n) ≡ list_any f (tab n h)
     unfolding tab
     any_from h a zero same = refl
     any_from h a (suc n) same =
         ap₂ ◌||◌ (ap f (ap g (same_place a) ∙ same 0))
         (any_from (λ i. h (suc i)) (a + 1) n (λ i. sym (ap g (next_place a i)) ∙ same (suc i)))
 
-    all_from : (h : ℕ → A) (a n : ℕ) → ((i : ℕ) → g (a + i) ≡ h i) → list_all (λ i. f (g i)) (range_with_len a n) ≡ all f (tab n h)
+    all_from : (h : ℕ → A) (a n : ℕ) → ((i : ℕ) → g (a + i) ≡ h i) → list_all (λ i. f (g i)) (range_with_len a n) ≡ list_all f (tab n h)
     unfolding tab
     all_from h a zero same = refl
     all_from h a (suc n) same =
@@ -47,10 +38,10 @@ module _ {A : Type 0} where
         (all_from (λ i. h (suc i)) (a + 1) n (λ i. sym (ap g (next_place a i)) ∙ same (suc i)))
 
     -- A test asked of the first n numbers, by what a function gives at each.
-    pub any_range : (n : ℕ) → list_any (λ i. f (g i)) (range_with_len 0 n) ≡ any f (tab n g)
+    pub any_range : (n : ℕ) → list_any (λ i. f (g i)) (range_with_len 0 n) ≡ list_any f (tab n g)
     any_range n = any_from g 0 n (λ i. ap g (sym (next_zero i)))
 
-    pub all_range : (n : ℕ) → list_all (λ i. f (g i)) (range_with_len 0 n) ≡ all f (tab n g)
+    pub all_range : (n : ℕ) → list_all (λ i. f (g i)) (range_with_len 0 n) ≡ list_all f (tab n g)
     all_range n = all_from g 0 n (λ i. ap g (sym (next_zero i)))
 
 -- The numbers below n.
@@ -60,8 +51,8 @@ below n = record { start = 0; end = n }
 -- What a closure answers at the numbers below n, where it asks a test of what a function gives at each: `any` and `all` answer the test of the first n values.
 module _ {A F : Type 0} {g : Mut F (ℕ × Unit {0}) Bool} (test : A → Bool) (f : ℕ → A) (asked : F)
     (says : (x : ℕ) (b : Bool) (q : F) → Called g asked (x, tt) b q → (q ≡ asked) × (b ≡ test (f x))) (n : ℕ) (u : Range ℕ) (r : Bool) where
-  pub asked_any : ChecksAny nat_range_steps g (below n) asked r u → r ≡ any test (tab n f)
+  pub asked_any : ChecksAny nat_range_steps g (below n) asked r u → r ≡ list_any test (tab n f)
   asked_any d = any_from_yields_List (λ i. test (f i)) u asked r d (YieldsList-from_range 0 n n refl (omega arith)) says ∙ any_range test f n
 
-  pub asked_all : ChecksAll nat_range_steps g (below n) asked r u → r ≡ all test (tab n f)
+  pub asked_all : ChecksAll nat_range_steps g (below n) asked r u → r ≡ list_all test (tab n f)
   asked_all d = all_from_yields_List (λ i. test (f i)) u asked r d (YieldsList-from_range 0 n n refl (omega arith)) says ∙ all_range test f n

@@ -1,9 +1,9 @@
 -- An empty mask: no bit counts, and every partition fails the test that the mask stands for.
 use Rattle.std.specs.Prelude.{ℕ, zero, suc, ◌+◌, ◌/◌, ◌%◌, ◌≤◌, ◌<◌, Bool, true, false, not, List, [], ◌∷◌, ◌≡◌, refl, eqb}
+use Rattle.std.specs.List.{list_any, list_all}
 use Rattle.std.proofs.Common.{sym, ap, ◌∙◌, eqb-true, eq-eqb, ne_eqb, arith}
 use Rattle.std.proofs.lemmas.Bool.{eqb-false, not-true}
 use Rattle.std.specs.Int.Count.{ones, ones_in, ones_step}
-use Rattle.rules.specs.Lists.{any, all}
 use Rattle.rules.specs.Partitions.{names, every_partition}
 use Rattle.laws.specs.Tests.{split, never}
 use Rattle.laws.specs.Bits.{names_zero, names_within, same_bits}
@@ -33,19 +33,19 @@ names_nobody m l k = same_bits m 0 (λ p. nobody p ∙ sym (names_zero p))
 
 -- A mask that names the partitions which pass a test is empty exactly where every partition fails it.
 pub empty_mask : (f : ℕ → Bool) (m : ℕ) → m < 256 → ((p : ℕ) → p < 8 → names m p ≡ f p)
-    → eqb m 0 ≡ all (λ p. not (f p)) every_partition
+    → eqb m 0 ≡ list_all (λ p. not (f p)) every_partition
 empty_mask f m l k =
-    split (all (λ p. not (f p)) every_partition)
+    split (list_all (λ p. not (f p)) every_partition)
     (λ q. rw q (eq-eqb m 0 (names_nobody m l (λ p low. k p low ∙ fails q p low))))
-    (λ q. rw q (ne_eqb m 0 (λ e. never (all (λ p. not (f p)) every_partition) ((every_partition_passes (λ p. not (f p))).1 (empty e)) q)))
+    (λ q. rw q (ne_eqb m 0 (λ e. never (list_all (λ p. not (f p)) every_partition) ((every_partition_passes (λ p. not (f p))).1 (empty e)) q)))
   where
-    fails : all (λ p. not (f p)) every_partition ≡ true → (p : ℕ) → p < 8 → f p ≡ false
+    fails : list_all (λ p. not (f p)) every_partition ≡ true → (p : ℕ) → p < 8 → f p ≡ false
     fails q p low = not-true (f p) ((every_partition_passes (λ r. not (f r))).0 q p low)
 
     empty : m ≡ 0 → (p : ℕ) → p < 8 → not (f p) ≡ true
     empty e p low = ap not (sym (k p low) ∙ ap (λ (n : ℕ). names n p) e ∙ names_zero p)
 
 -- None passes exactly where all fail.
-pub none_passes : (f : ℕ → Bool) (xs : List ℕ) → not (any f xs) ≡ all (λ x. not (f x)) xs
+pub none_passes : (f : ℕ → Bool) (xs : List ℕ) → not (list_any f xs) ≡ list_all (λ x. not (f x)) xs
 none_passes f [] = refl
 none_passes f (x ∷ xs) = split (f x) (λ q. rw q) (λ q. rw q (none_passes f xs))

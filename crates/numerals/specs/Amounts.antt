@@ -1,11 +1,12 @@
 -- Signed 64-bit values and their texts: where the sign stands, what is written is read back, and a value has one text.
 use Rattle.std.specs.Prelude.{ℕ, zero, suc, ◌-◌, ◌^◌, ◌≤◌, ◌<◌, Bool, true, false, List, [], ◌∷◌, ◌≡◌, refl, eqb, ℤ, pos, negsuc, nat_abs, length, take, drop, get_or}
+use Rattle.std.specs.List.{list_all}
 use Rattle.std.proofs.Common.{true≢false, sym, ap, ap₂, ◌∙◌, eq-eqb, ne_eqb, eqb-true, le-ltb, arith, take_all}
 use Rattle.std.proofs.lemmas.Bool.{false≢true}
 use Rattle.std.proofs.Math.Option.{Option, none, some, map}
 use Rattle.std.specs.Int.Signed.{lt_z, mag}
-use Rattle.rules.specs.Lists.{all, member}
-use Rattle.rules.specs.Bytes.{is_digit, number, signed, below_zero, decimal, signed_text}
+use Rattle.rules.specs.Lists.{member}
+use Rattle.rules.specs.Bytes.{is_digit, number, signed, below_zero, decimal_text, signed_text}
 use Rattle.laws.specs.Tests.{split, and_left, or_neither}
 use Rattle.numerals.specs.Decimal.{decimal_digits, decimal_absent, decimal_some, decimal_fits_signed, digit_range}
 use Rattle.numerals.specs.Texts.{numeral, number_read_back, number_one_text}
@@ -21,18 +22,18 @@ below_test (pos n) = le-ltb n 0 (omega arith)
 below_test (negsuc n) = refl
 
 -- The text is a minus, where there is one, and the magnitude's digits.
-pub text_below : (z : ℤ) → is_below z ≡ true → signed_text z ≡ 45 ∷ decimal (nat_abs z)
+pub text_below : (z : ℤ) → is_below z ≡ true → signed_text z ≡ 45 ∷ decimal_text (nat_abs z)
 unfolding is_below signed_text
 text_below (pos n) h = absurd (false≢true h)
 text_below (negsuc n) h = refl
 
-pub text_above : (z : ℤ) → is_below z ≡ false → signed_text z ≡ decimal (nat_abs z)
+pub text_above : (z : ℤ) → is_below z ≡ false → signed_text z ≡ decimal_text (nat_abs z)
 unfolding is_below signed_text
 text_above (pos n) h = refl
 text_above (negsuc n) h = absurd (true≢false h)
 
 -- A magnitude of 64 bits has at most 19 digits, so a value and its minus take at most 20 bytes.
-pub magnitude_fits : (z : ℤ) → mag z < 2 ^ 63 → length (decimal (nat_abs z)) ≤ 19
+pub magnitude_fits : (z : ℤ) → mag z < 2 ^ 63 → length (decimal_text (nat_abs z)) ≤ 19
 magnitude_fits (pos n) h = decimal_fits_signed n (omega arith)
 magnitude_fits (negsuc n) h = decimal_fits_signed (suc n) (omega arith)
 
@@ -50,7 +51,7 @@ signed_text_some (negsuc n) = omega arith
 pub signed_text_absent : (c : ℕ) (z : ℤ) → is_digit c ≡ false → (c ≡ 45 → ⊥) → member c (signed_text z) ≡ false
 unfolding signed_text
 signed_text_absent c (pos n) h m = decimal_absent c n h
-signed_text_absent c (negsuc n) h m = or_neither (eqb c 45) (member c (decimal (suc n))) (ne_eqb c 45 m) (decimal_absent c (suc n) h)
+signed_text_absent c (negsuc n) h m = or_neither (eqb c 45) (member c (decimal_text (suc n))) (ne_eqb c 45 m) (decimal_absent c (suc n) h)
 
 -- A value by its first byte.
 pub signed_nothing : (s : List ℕ) → length s ≡ 0 → signed s ≡ none
@@ -73,16 +74,16 @@ signed_plain (b ∷ bs) n e = rw (ne_eqb b 45 e)
 pub ruleset first_byte = (signed_nothing, signed_minus, signed_plain)
 
 -- What is written is read back.
-signed_digits : (bs : List ℕ) → 0 < length bs → all is_digit bs ≡ true → signed bs ≡ map pos (number 9_223_372_036_854_775_807 bs)
+signed_digits : (bs : List ℕ) → 0 < length bs → list_all is_digit bs ≡ true → signed bs ≡ map pos (number 9_223_372_036_854_775_807 bs)
 signed_digits [] l h = absurd (omega arith)
 signed_digits (b ∷ bs) l h =
-    let digit = digit_range b (and_left (is_digit b) (all is_digit bs) h) in
+    let digit = digit_range b (and_left (is_digit b) (list_all is_digit bs) h) in
     signed_plain (b ∷ bs) (λ e. omega arith) (λ e. omega arith)
 
 pub signed_read_back : (z : ℤ) → mag z < 2 ^ 63 → signed (signed_text z) ≡ some z
 unfolding signed signed_text
 signed_read_back (pos n) h =
-    signed_digits (decimal n) (decimal_some n) (decimal_digits n)
+    signed_digits (decimal_text n) (decimal_some n) (decimal_digits n)
     ∙ ap (map pos) (number_read_back n 9_223_372_036_854_775_807 (omega arith))
 signed_read_back (negsuc n) h =
     ap below_zero (number_read_back (suc n) 9_223_372_036_854_775_808 (omega arith))

@@ -1,15 +1,15 @@
 -- Digits read from the left within a limit, as the loop reads them, and that this is the rules' number.
 use Rattle.std.specs.Prelude.{ℕ, ◌+◌, ◌*◌, ◌-◌, ◌≤◌, ◌<◌, true, false, not, cond, ◌&&◌, List, [], ◌∷◌, ◌⊎◌, ◌≡◌, refl, eqb, leb, length, drop, get_or}
+use Rattle.std.specs.List.{list_all}
 use Rattle.std.proofs.Common.{inl, inr, ap, ◌∙◌, add-one, arith, drop_of_length-le, drop-cons}
 use Rattle.std.proofs.Math.Option.{Option, none, some}
 use borrow.Author.Tests.{le-leb, lt-leb}
-use Rattle.rules.specs.Lists.{all}
 use Rattle.rules.specs.Bytes.{is_digit, digits_value, well_led, number}
 use Rattle.laws.specs.Tests.{split}
 
 -- The number that the digits bs make behind a number v that was read already, where it is within the limit.
 unfoldable pub read_from : ℕ → ℕ → List ℕ → Option ℕ
-read_from limit v bs = cond (all is_digit bs && leb (digits_value v bs) limit) (some (digits_value v bs)) none
+read_from limit v bs = cond (list_all is_digit bs && leb (digits_value v bs) limit) (some (digits_value v bs)) none
 
 -- The rules look at the leading digit, and then at this.
 pub number_led : (limit : ℕ) (bs : List ℕ) → well_led bs ≡ true → number limit bs ≡ read_from limit 0 bs
@@ -45,7 +45,7 @@ read_over : (limit v : ℕ) (bs : List ℕ) → limit < v → read_from limit v 
 unfolding read_from
 read_over limit v bs h =
     let most = value_grows v bs in
-    split (all is_digit bs)
+    split (list_all is_digit bs)
     (λ q. rw (q, lt-leb (digits_value v bs) limit (omega arith))) (λ q. rw q)
 
 -- The loop stands at i and has read v.

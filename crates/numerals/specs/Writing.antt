@@ -2,7 +2,7 @@
 use Rattle.std.specs.Prelude.{ℕ, ◌+◌, ◌/◌, ◌^◌, ◌≤◌, ◌<◌, List, [], ◌∷◌, ◌++◌, ◌↔◌, ◌≡◌, refl, ℤ, nat_abs, length, set}
 use Rattle.std.proofs.Common.{to_z-of_z, sym, ap, ◌∙◌, arith, length-append}
 use Rattle.std.specs.Int.Signed.{mag}
-use Rattle.rules.specs.Bytes.{decimal}
+use Rattle.rules.specs.Bytes.{decimal_text}
 use Rattle.laws.specs.Cuts.{put, set_put, put_put, length_put}
 use Rattle.numerals.specs.Decimal.{decimal_small, decimal_large, decimal_length_large, decimal_some, decimal_fits}
 use Rattle.numerals.specs.Amounts.{below_test, text_below, text_above, magnitude_fits}
@@ -38,16 +38,16 @@ pub wrote_length : {o o' : List ℕ} {at p : ℕ} {s : List ℕ} → at + length
 wrote_length {o} {o'} {at} {p} {s} fits w = ap length w.text ∙ length_put o at s fits
 
 -- There is room for a number; for its last digit behind the others; for a value's magnitude, and behind a byte.
-pub room_number : (at v n : ℕ) → v < 2 ^ 64 → at + 20 ≤ n → at + length (decimal v) ≤ n
+pub room_number : (at v n : ℕ) → v < 2 ^ 64 → at + 20 ≤ n → at + length (decimal_text v) ≤ n
 room_number at v n h fits = let digits = decimal_fits v h in omega arith
 
-pub room_small : (at v n : ℕ) → at + length (decimal v) ≤ n → at < n
+pub room_small : (at v n : ℕ) → at + length (decimal_text v) ≤ n → at < n
 room_small at v n fits = let some = decimal_some v in omega arith
 
-pub room_front : (at v n : ℕ) → 10 ≤ v → at + length (decimal v) ≤ n → at + length (decimal (v / 10)) ≤ n
+pub room_front : (at v n : ℕ) → 10 ≤ v → at + length (decimal_text v) ≤ n → at + length (decimal_text (v / 10)) ≤ n
 room_front at v n h fits = let long = decimal_length_large v h in omega arith
 
-pub room_last : {o o' : List ℕ} {at v p : ℕ} → 10 ≤ v → at + length (decimal v) ≤ length o → Wrote o at (decimal (v / 10)) o' p → p < length o'
+pub room_last : {o o' : List ℕ} {at v p : ℕ} → 10 ≤ v → at + length (decimal_text v) ≤ length o → Wrote o at (decimal_text (v / 10)) o' p → p < length o'
 room_last {o} {o'} {at} {v} h fits w =
     let front = room_front at v (length o) h fits in
     let long = decimal_length_large v h in
@@ -55,11 +55,11 @@ room_last {o} {o'} {at} {v} h fits w =
     let place = w.place in
     omega arith
 
-pub room_plain : (z : ℤ) (at n : ℕ) → mag z < 2 ^ 63 → at + 20 ≤ n → at + length (decimal (nat_abs z)) ≤ n
+pub room_plain : (z : ℤ) (at n : ℕ) → mag z < 2 ^ 63 → at + 20 ≤ n → at + length (decimal_text (nat_abs z)) ≤ n
 room_plain z at n h fits = let digits = magnitude_fits z h in omega arith
 
 pub room_below : {o o' : List ℕ} {at p b : ℕ} (z : ℤ) → mag z < 2 ^ 63 → at + 20 ≤ length o → Wrote o at (b ∷ []) o' p
-    → p + length (decimal (nat_abs z)) ≤ length o'
+    → p + length (decimal_text (nat_abs z)) ≤ length o'
 room_below {o} {o'} {at} {p} z h fits w =
     let digits = magnitude_fits z h in
     let same : length o' ≡ length o = wrote_length (omega arith) w in

@@ -4,7 +4,7 @@
 ghost use Rattle.std.specs.List.{position};
 ghost use Rattle.std.specs.Prelude.{◌==◌, ◌+◌, ◌≤◌, ◌<◌, ◌^◌, [], ◌∷◌, ◌≡◌, pos, length, drop};
 ghost use Rattle.std.proofs.Math.Option.{map};
-ghost use Rattle.rules.specs.Bytes.{well_led, number, signed, below_zero, decimal, signed_text};
+ghost use Rattle.rules.specs.Bytes.{well_led, number, signed, below_zero, decimal_text, signed_text};
 ghost use Rattle.laws.specs.Options.{given};
 ghost use Rattle.numerals.specs.Parts.{until};
 ghost use Rattle.numerals.specs.Reading.{read_from};
@@ -134,8 +134,8 @@ fn digit(d: u64) -> u8
 // The digits before the last one first, by the same function, where there are any.
 #[tactic(auto, using(crate::specs::Writing::digit_by_digit))]
 fn write_digits(out: &mut [u8], at: usize, v: u64) -> usize
-    requires { at + length (decimal v) ≤ length out.old }
-    ensures { Wrote out.old at (decimal v) out.new result }
+    requires { at + length (decimal_text v) ≤ length out.old }
+    ensures { Wrote out.old at (decimal_text v) out.new result }
 {
     if v < 10 {
         return write_byte(out, at, digit(v));
@@ -148,7 +148,7 @@ fn write_digits(out: &mut [u8], at: usize, v: u64) -> usize
 #[tactic(auto, using(crate::specs::Writing::room_number))]
 pub fn write_number(out: &mut [u8], at: usize, v: u64) -> usize
     requires { at + 20 ≤ length out.old }
-    ensures { Wrote out.old at (decimal v) out.new result }
+    ensures { Wrote out.old at (decimal_text v) out.new result }
 {
     write_digits(out, at, v)
 }

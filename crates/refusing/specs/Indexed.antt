@@ -1,9 +1,9 @@
 -- The row of an identity among those that wait.
 use Rattle.std.specs.Prelude.{ℕ, ◌+◌, ◌<◌, true, false, List, [], ◌∷◌, ◌≡◌, refl, eqb, ℤ, length, get_or}
+use Rattle.std.specs.List.{list_any}
 use Rattle.std.proofs.Common.{zero-le, suc-le-suc, sym, ap, ◌∙◌, arith, eqb-true}
 use Rattle.std.proofs.Math.Option.{none}
 use Rattle.std.proofs.lemmas.Bool.{not-false}
-use Rattle.rules.specs.Lists.{any}
 use Rattle.rules.specs.Partitions.{Ballot}
 use Rattle.rules.specs.Events.{vote}
 use Rattle.rules.specs.Refusals.{is_for, waits_for, refusal, checks, vote_checks}
@@ -22,7 +22,7 @@ pub record Indexed (x : ℕ) (ys : List ℕ) (i : ℕ) : Type 0 where
   pub below : i < length ys
   pub stands : get_or ys i 0 ≡ x
 
-index_found : (x : ℕ) (ys : List ℕ) → any (λ y. eqb y x) ys ≡ true → Indexed x ys (index_of x ys)
+index_found : (x : ℕ) (ys : List ℕ) → list_any (λ y. eqb y x) ys ≡ true → Indexed x ys (index_of x ys)
 unfolding index_of
 index_found x [] h = never false h refl
 index_found x (y ∷ ys) h =
@@ -37,7 +37,7 @@ entry_identity book sums i =
     rw e at (get_or_cut (waiting_row i) 24 book 0 0 (omega arith))
 
 -- The rules' test of who waits, on the identities of the table.
-pub waits_here : (x : ℕ) (book : List ℕ) (sums : List ℤ) → waits_for x (view book sums) ≡ any (λ y. eqb y x) (waiting_identities book)
+pub waits_here : (x : ℕ) (book : List ℕ) (sums : List ℤ) → waits_for x (view book sums) ≡ list_any (λ y. eqb y x) (waiting_identities book)
 unfolding view waiting_view waiting_identities
 waits_here x book sums =
     any_tab_same (get_or book 5 0) (is_for x) (entry_at book sums) (λ y. eqb y x) (λ i. get_or book (waiting_row i) 0)

@@ -1,8 +1,8 @@
 -- The number that refuses an operation is the rules' number, and 0 means that nothing refuses it.
 use Rattle.std.specs.Prelude.{ℕ, ◌/◌, Bool, true, false, List, [], ◌∷◌, ◌≡◌, refl, ltb}
+use Rattle.std.specs.List.{list_all}
 use Rattle.std.proofs.Math.Option.{none}
 use Rattle.std.proofs.Common.{sym, ◌∙◌, arith, ltb-true}
-use Rattle.rules.specs.Lists.{all}
 use Rattle.rules.specs.Ledger.{State}
 use Rattle.rules.specs.Events.{Event, delivery, vote, change, read}
 use Rattle.rules.specs.Soundness.{sound}
@@ -14,23 +14,23 @@ use Rattle.refusing.specs.Operands.{number_of, lent_number}
 abbrev numbered : Check → Bool
 numbered c = ltb 0 c.number
 
-first_numbered : (cs : List Check) → all numbered cs ≡ true → number_of (first_of cs) ≡ 0 → first_of cs ≡ none
+first_numbered : (cs : List Check) → list_all numbered cs ≡ true → number_of (first_of cs) ≡ 0 → first_of cs ≡ none
 unfolding first_of
 first_numbered [] h z = refl
 first_numbered (c ∷ cs) h z =
     split c.holds
-    (λ q. let some_number = ltb-true 0 c.number (and_left (numbered c) (all numbered cs) h) in
+    (λ q. let some_number = ltb-true 0 c.number (and_left (numbered c) (list_all numbered cs) h) in
     let e : c.number ≡ 0 = rw q at z in absurd (omega arith))
-    (λ q. rw q (first_numbered cs (and_right (numbered c) (all numbered cs) h) (rw q at z)))
+    (λ q. rw q (first_numbered cs (and_right (numbered c) (list_all numbered cs) h) (rw q at z)))
 
-checks_numbered : (e : Event) (s : State) → all numbered (checks e s) ≡ true
+checks_numbered : (e : Event) (s : State) → list_all numbered (checks e s) ≡ true
 unfolding checks delivery_checks vote_checks change_checks read_checks
 checks_numbered (delivery t) s = refl
 checks_numbered (vote i p b) s = refl
 checks_numbered (change k) s = refl
 checks_numbered (read key st) s = refl
 
-desk_numbered : (room : ℕ) (e : Event) (s : State) → all numbered (desk_checks room e s) ≡ true
+desk_numbered : (room : ℕ) (e : Event) (s : State) → list_all numbered (desk_checks room e s) ≡ true
 unfolding desk_checks
 desk_numbered room e s = checks_numbered e s
 

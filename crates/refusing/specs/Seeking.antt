@@ -1,10 +1,9 @@
 -- The search for an identity's row: it is the first that has the identity, or none has it.
 use Rattle.std.specs.Prelude.{ℕ, zero, suc, ◌+◌, false, cond, List, [], ◌∷◌, ◌≡◌, refl, Some, None, eqb, ltb, ℤ, length, get_or}
 use Rattle.std.specs.declared.option.Option as code
-use Rattle.std.specs.List.{range_with_len, position_or_len}
+use Rattle.std.specs.List.{range_with_len, position_or_len, list_any}
 use Rattle.std.proofs.lemmas.List.FromFn.{length-range_with_len}
 use Rattle.std.proofs.Common.{sym, ap, ◌∙◌, arith, lt-ltb, le-ltb}
-use Rattle.rules.specs.Lists.{any}
 use Rattle.rules.specs.Refusals.{waits_for}
 use Rattle.laws.specs.Tests.{split, or_left, or_right}
 use Rattle.laws.specs.Cuts.{get_or_cut}
@@ -26,12 +25,12 @@ waiting_row_of x book =
     cond (ltb (index_of x (waiting_identities book)) (get_or book waiting_at 0)) (Some (index_of x (waiting_identities book))) None
 
 -- The index of a number that isn't there is the length.
-index_missing : (x : ℕ) (ys : List ℕ) → any (λ y. eqb y x) ys ≡ false → index_of x ys ≡ length ys
+index_missing : (x : ℕ) (ys : List ℕ) → list_any (λ y. eqb y x) ys ≡ false → index_of x ys ≡ length ys
 unfolding index_of
 index_missing x [] h = refl
 index_missing x (y ∷ ys) h =
-    let other = or_left (eqb y x) (any (λ z. eqb z x) ys) h in
-    rw other (ap suc (index_missing x ys (or_right (eqb y x) (any (λ z. eqb z x) ys) h)))
+    let other = or_left (eqb y x) (list_any (λ z. eqb z x) ys) h in
+    rw other (ap suc (index_missing x ys (or_right (eqb y x) (list_any (λ z. eqb z x) ys) h)))
 
 -- An identity waits exactly if its index is below the number of those that wait.
 pub waits_below : (x : ℕ) (book : List ℕ) (sums : List ℤ)

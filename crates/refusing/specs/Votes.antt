@@ -1,13 +1,14 @@
 -- A vote's numbers, 9 to 11, on the words of one row. The rules ask every waiting entry of the identity; identities differ, so that is one row.
 use Prim.Native.Nat.{ℕ, zero, suc, ◌+◌, ◌<◌}
 use Rattle.std.specs.Prelude.{Bool, true, false, cond, ◌&&◌, ◌||◌, ◌≡◌, eqb, leb, ℤ}
+use Rattle.std.specs.List.{list_any}
 use Rattle.std.proofs.Math.Bool.{not}
 use mathlib.Core.List.{List}
 use Rattle.std.proofs.Math.Path.{refl, subst}
 use Rattle.std.proofs.Common.{sym, ◌∙◌, arith}
 use borrow.Author.Tests.{eq-eqb, ne_eqb, eqb-false, le-leb, lt-leb, ltb-false, not-true}
 use Rattle.std.proofs.Math.ListN.{get_or}
-use Rattle.rules.specs.Lists.{any, member}
+use Rattle.rules.specs.Lists.{member}
 use Rattle.rules.specs.Partitions.{Ballot, names, other, heard_from}
 use Rattle.rules.specs.Ledger.{Entry}
 use Rattle.rules.specs.Soundness.{sound, different}
@@ -27,7 +28,7 @@ use Rattle.refusing.specs.Chains.{first_chain}
 
 -- Among values that are told apart by a number, a test of those that have a number is the test of the one that has it.
 module _ {A : Type 0} (number : A → ℕ) (t : A → Bool) (x : ℕ) where
-  any_missing : (n : ℕ) (g : ℕ → A) → member x (tab n (λ j. number (g j))) ≡ false → any (λ a. eqb (number a) x && t a) (tab n g) ≡ false
+  any_missing : (n : ℕ) (g : ℕ → A) → member x (tab n (λ j. number (g j))) ≡ false → list_any (λ a. eqb (number a) x && t a) (tab n g) ≡ false
   unfolding tab
   any_missing zero g h = refl
   any_missing (suc n) g h =
@@ -43,7 +44,7 @@ module _ {A : Type 0} (number : A → ℕ) (t : A → Bool) (x : ℕ) where
       or_second (eqb x (f 0)) (member x (tab n (λ j. f (suc j)))) (member_tab n (λ j. f (suc j)) i (omega arith) e)
 
   pub any_only : (n : ℕ) (g : ℕ → A) (i : ℕ) → different (tab n (λ j. number (g j))) ≡ true → i < n → number (g i) ≡ x
-      → any (λ a. eqb (number a) x && t a) (tab n g) ≡ t (g i)
+      → list_any (λ a. eqb (number a) x && t a) (tab n g) ≡ t (g i)
   unfolding tab different
   any_only zero g i apart low e = absurd (omega arith)
   any_only (suc n) g zero apart low e =
@@ -84,7 +85,7 @@ module _ (book : List ℕ) (sums : List ℤ) where
   entry_heard i p = rw (word i 4 (omega arith), word i 5 (omega arith))
 
   module _ (whole : sound (view book sums) ≡ true) (x p i : ℕ) (low : i < get_or book waiting_at 0) (its : (entry_at book sums i).transaction.identity ≡ x) where
-    asked : (t : Entry → Bool) → any (λ e. is_for x e && t e) (waiting_view (get_or book waiting_at 0) book sums) ≡ t (entry_at book sums i)
+    asked : (t : Entry → Bool) → list_any (λ e. is_for x e && t e) (waiting_view (get_or book waiting_at 0) book sums) ≡ t (entry_at book sums i)
     unfolding waiting_view
     asked t =
         let n = get_or book waiting_at 0 in

@@ -62,7 +62,7 @@ fn check_tables(lent: Lent<'_>) -> Result<Usable<'_>, Refusal>
 {
     let book = check_lengths(lent)?;
     let sums = Sums { amounts: lent.sums };
-    if !checking::is_sound(book, sums) {
+    if !lent.looked && !checking::is_sound(book, sums) {
         return Err(Refusal::Unusable);
     }
     Ok(Usable { book })

@@ -2,11 +2,11 @@
 use Rattle.std.specs.Prelude.{ℕ, List, [], ◌∷◌, ◌++◌}
 use Rattle.rules.specs.Closing.{Outcome, version, aborts, Finish}
 use Rattle.rules.specs.Events.{Event, delivery, vote, change, read, Answer, refused, waits, aborted, voted, changed, value, Step}
-use Rattle.rules.specs.Bytes.{decimal, signed_text, tab_byte, newline}
+use Rattle.rules.specs.Bytes.{decimal_text, signed_text, tab_byte, newline}
 
 -- A tab and a number; the end of a line.
 abbrev pub field : ℕ → List ℕ → List ℕ
-field n rest = tab_byte ∷ (decimal n ++ rest)
+field n rest = tab_byte ∷ (decimal_text n ++ rest)
 
 abbrev pub end : List ℕ
 end = newline ∷ []

@@ -7,9 +7,13 @@ use Rattle.rules.specs.Closing.{version, aborts}
 use Rattle.rules.specs.Events.{Event, vote, change, refused, waits, aborted, voted, changed}
 use Rattle.rules.specs.Cases.{Case, row, computed, wanted, deliver, ◌puts◌, ◌ends◌, commits_up_to}
 
+-- "delivery 10 as above", but for its st.
+abbrev ten_at : ℕ → Event
+ten_at st = deliver 10 3 st (7 ∷ []) (7 puts pos 500 ∷ [])
+
 -- "delivery 10 as above"
 abbrev pub ten : Event
-ten = deliver 10 3 0 (7 ∷ []) (7 puts pos 500 ∷ [])
+ten = ten_at 0
 
 -- A local that brings DC from 1 to 2 and clashes with nothing: it commits at once, as version 1.
 abbrev pub filler : Event
@@ -45,16 +49,16 @@ starred =
     ∷ row 1 (ten ∷ []) (deliver 11 1 0 (7 ∷ []) (7 puts pos 5 ∷ [])) (aborted 2 3 none) [] 0
     -- "Global reads 9, writes 7: reason 2."
     ∷ row 1 (ten ∷ []) (deliver 11 3 0 (9 ∷ []) (7 puts pos 5 ∷ [])) (aborted 2 2 (some nay)) [] 0
-    -- "st = SC is taken"
-    ∷ row 1 (filler ∷ []) (at_snapshot 1) (waits 2 0 none) (1000 ends version 2 ∷ []) 2
+    -- "st = SC is taken": SC is 1, and delivery 10, which came at DC 2, is passed at DC 3.
+    ∷ row 1 (filler ∷ ten ∷ []) (at_snapshot 1) (waits 3 0 none) (1000 ends version 2 ∷ []) 2
     -- "SC + 1 is 5."
-    ∷ row 1 (filler ∷ []) (at_snapshot 2) (refused 5) [] 1
-    -- "SC 64: st 0 is taken."
-    ∷ row 1 (commits_up_to 64) (at_snapshot 0) (waits 65 0 none) (1000 ends version 65 ∷ []) 65
-    -- "SC 65: st 0 is 6"
-    ∷ row 1 (commits_up_to 65) (at_snapshot 0) (refused 6) [] 65
+    ∷ row 1 (filler ∷ ten ∷ []) (at_snapshot 2) (refused 5) [] 1
+    -- "SC 64: st 0 is taken." Delivery 10 comes behind the 64 commits, at st 64: at st 0 it would clash with version 7, which wrote key 7.
+    ∷ row 1 (commits_up_to 64 ++ ten_at 64 ∷ []) (at_snapshot 0) (waits 66 0 none) (1000 ends version 65 ∷ []) 65
+    -- "SC 65: st 0 is 6". Delivery 10 comes behind the 65 commits, at st 65: at st 0 it would itself be 6.
+    ∷ row 1 (commits_up_to 65 ++ ten_at 65 ∷ []) (at_snapshot 0) (refused 6) [] 65
     -- "st 1 is taken."
-    ∷ row 1 (commits_up_to 65) (at_snapshot 1) (waits 66 0 none) (1000 ends version 66 ∷ []) 66
+    ∷ row 1 (commits_up_to 65 ++ ten_at 65 ∷ []) (at_snapshot 1) (waits 67 0 none) (1000 ends version 66 ∷ []) 66
     -- "Vote N at DC 2: B 10, SC as before."
     ∷ row 1 (ten ∷ filler ∷ []) (vote 10 1 nay) voted (10 ends aborts ∷ []) 1
     -- "The vote again: 9."

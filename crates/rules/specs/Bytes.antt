@@ -1,7 +1,7 @@
 -- 01, "The log as text": bytes, parts of a line, numbers.
 use Rattle.std.specs.Prelude.{ℕ, zero, suc, ◌+◌, ◌*◌, ◌-◌, ◌/◌, ◌%◌, Bool, true, false, not, cond, ◌&&◌, List, [], ◌∷◌, ◌++◌, eqb, leb, ltb, ℤ, pos, negsuc}
+use Rattle.std.specs.List.{list_all}
 use Rattle.std.proofs.Math.Option.{Option, none, some, map}
-use Rattle.rules.specs.Lists.{all}
 
 -- The bytes that have a meaning.
 abbrev pub tab_byte : ℕ
@@ -47,7 +47,7 @@ well_led (b ∷ c ∷ bs) = not (eqb b zero_digit)
 
 -- "a number too large for its field" is unreadable, and so is "anything not of these forms".
 unfoldable pub number : ℕ → List ℕ → Option ℕ
-number limit bs = cond (well_led bs && all is_digit bs && leb (digits_value 0 bs) limit) (some (digits_value 0 bs)) none
+number limit bs = cond (well_led bs && list_all is_digit bs && leb (digits_value 0 bs) limit) (some (digits_value 0 bs)) none
 
 -- "value signed 64-bit": a minus may stand first. "`-0` is unreadable."
 abbrev pub below_zero : Option ℕ → Option ℤ
@@ -66,9 +66,9 @@ decimal_from zero v small = []
 decimal_from (suc fuel) v true = (zero_digit + v) ∷ []
 decimal_from (suc fuel) v false = decimal_from fuel (v / 10) (ltb (v / 10) 10) ++ (zero_digit + v % 10) ∷ []
 
-unfoldable pub decimal : ℕ → List ℕ
-decimal v = decimal_from (suc v) v (ltb v 10)
+unfoldable pub decimal_text : ℕ → List ℕ
+decimal_text v = decimal_from (suc v) v (ltb v 10)
 
 unfoldable pub signed_text : ℤ → List ℕ
-signed_text (pos n) = decimal n
-signed_text (negsuc n) = minus ∷ decimal (suc n)
+signed_text (pos n) = decimal_text n
+signed_text (negsuc n) = minus ∷ decimal_text (suc n)

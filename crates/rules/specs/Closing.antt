@@ -42,14 +42,17 @@ pub data Outcome : Type 0 where
   version : ℕ → Outcome
   aborts : Outcome
 
+-- What a finish tells: of which transaction, and how it ended.
 pub record Finish : Type 0 where
   pub transaction : Transaction
   pub outcome : Outcome
 
--- The finish of a head that is taken off, and the books after it.
+-- The finish of a head that is taken off: "A global head commits if every vote was yes, otherwise it aborts [..] A commit raises SC by 1, and that is
+-- its version."
 unfoldable pub finish : Clock → Entry → Books → Finish
 finish c e b = record { transaction = e.transaction; outcome = cond (commits c e) (version (b.sc + 1)) aborts }
 
+-- "A local head commits. A global head commits if every vote was yes, otherwise it aborts and writes nothing.": the books after it.
 unfoldable pub books_after : Clock → Entry → Books → Books
 books_after c e b = cond (commits c e) (committed e.transaction b) b
 

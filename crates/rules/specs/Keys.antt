@@ -1,7 +1,8 @@
 -- Lists of keys: ascending, within their limits, and what two of them share.
 use Rattle.std.specs.Prelude.{ℕ, Bool, true, not, cond, ◌&&◌, ◌||◌, List, [], ◌∷◌, leb, ltb, length}
+use Rattle.std.specs.List.{list_any}
 use Rattle.std.proofs.Math.Option.{Option, none, some}
-use Rattle.rules.specs.Lists.{any, member, is_some}
+use Rattle.rules.specs.Lists.{member, some_found}
 use Rattle.rules.specs.Sizes.{keys, most_keys}
 
 -- "strictly ascending": each key is below the one after it.
@@ -21,9 +22,9 @@ bad_key x = leb keys x
 abbrev pub too_many : List ℕ → Bool
 too_many xs = ltb most_keys (length xs)
 
--- "a key over 1,023; keys not strictly ascending"
+-- "a key over 1,023; [..] keys not strictly ascending"
 unfoldable pub bad_keys : List ℕ → Bool
-bad_keys xs = any bad_key xs || not (ascending xs)
+bad_keys xs = list_any bad_key xs || not (ascending xs)
 
 -- "every stored set is within its limits and ascending"
 unfoldable pub good_set : List ℕ → Bool
@@ -36,4 +37,4 @@ shared (x ∷ xs) ys = cond (member x ys) (some x) (shared xs ys)
 
 -- Two lists have a key in common.
 unfoldable pub meet : List ℕ → List ℕ → Bool
-meet xs ys = is_some (shared xs ys)
+meet xs ys = some_found (shared xs ys)

@@ -49,6 +49,7 @@ pub record Books : Type 0 where
   pub kept : List Commit
   pub values : List ℤ
 
+-- "keeps a waiting list, a store with versions, a snapshot counter SC and a delivery counter DC"
 pub record State : Type 0 where
   pub clock : Clock
   pub waiting : List Entry

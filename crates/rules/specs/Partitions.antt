@@ -1,6 +1,6 @@
 -- Sets of partitions as numbers, one bit each, and the votes that an entry has heard.
 use Rattle.std.specs.Prelude.{ℕ, zero, suc, ◌+◌, ◌*◌, ◌^◌, ◌/◌, ◌%◌, Bool, true, false, not, cond, ◌&&◌, ◌||◌, List, [], ◌∷◌, eqb, leb}
-use Rattle.rules.specs.Lists.{any, all}
+use Rattle.std.specs.List.{list_any, list_all}
 use Rattle.rules.specs.Sizes.{most_partitions}
 
 -- "a set of partitions (one bit each)": partition p is in the set when its bit is 1.
@@ -65,13 +65,14 @@ heard_from h p = names h.ayes p || names h.nays p
 unfoldable pub outstanding : ℕ → ℕ → Heard → ℕ → Bool
 outstanding own set h p = other own set p && not (heard_from h p)
 
+-- "no vote is outstanding" where this is false
 unfoldable pub any_outstanding : ℕ → ℕ → Heard → Bool
-any_outstanding own set h = any (outstanding own set h) every_partition
+any_outstanding own set h = list_any (outstanding own set h) every_partition
 
 -- "if every vote was yes": none of the votes that it waited for was no.
 unfoldable pub every_vote_yes : ℕ → ℕ → Heard → Bool
-every_vote_yes own set h = all (λ p. not (other own set p && names h.nays p)) every_partition
+every_vote_yes own set h = list_all (λ p. not (other own set p && names h.nays p)) every_partition
 
 -- "stored votes come from other involved partitions", of one of the two sets.
 unfoldable pub from_others : ℕ → ℕ → ℕ → Bool
-from_others own set voters = not (beyond most_partitions voters) && all (λ p. not (names voters p) || other own set p) every_partition
+from_others own set voters = not (beyond most_partitions voters) && list_all (λ p. not (names voters p) || other own set p) every_partition

@@ -1,9 +1,9 @@
 -- 01, "A program over it reads a log as text and writes the answers": bytes in, bytes out.
-use Rattle.std.specs.Prelude.{ℕ, cond, List, [], ◌∷◌, ◌++◌}
+use Rattle.std.specs.Prelude.{ℕ, List, [], ◌∷◌, ◌++◌}
 use Rattle.std.proofs.Math.Option.{Option, none, some}
-use Rattle.rules.specs.Ledger.{State, opening, sizes_fit}
+use Rattle.rules.specs.Ledger.{State, opening}
 use Rattle.rules.specs.Events.{Event}
-use Rattle.rules.specs.Refusals.{step}
+use Rattle.rules.specs.Refusals.{opening_refusal, step}
 use Rattle.rules.specs.Bytes.{split, newline}
 use Rattle.rules.specs.Records.{Record, opens, event, unreadable, record_of}
 use Rattle.rules.specs.AnswerText.{refusal_text, opened_text, step_text}
@@ -13,13 +13,17 @@ pub record Told : Type 0 where
   pub text : List ℕ
   pub ledger : Option State
 
--- "program: event before opening, or a second opening"; "opening: sizes outside the table"
+-- An opening: refused by its number, or the state that it gives.
+abbrev pub opened_or : Option ℕ → ℕ → ℕ → ℕ → Told
+opened_or none partitions own k = record { text = opened_text partitions own k; ledger = some (opening partitions own k) }
+opened_or (some n) partitions own k = record { text = refusal_text n; ledger = none }
+
+-- "a second opening"
 unfoldable pub open_record : ℕ → ℕ → ℕ → Option State → Told
 open_record partitions own k (some s) = record { text = refusal_text 13; ledger = some s }
-open_record partitions own k none =
-    cond (sizes_fit partitions own k) (record { text = opened_text partitions own k; ledger = some (opening partitions own k) })
-    (record { text = refusal_text 13; ledger = none })
+open_record partitions own k none = opened_or (opening_refusal partitions own k) partitions own k
 
+-- "event before opening"
 unfoldable pub event_record : Event → Option State → Told
 event_record e none = record { text = refusal_text 13; ledger = none }
 event_record e (some s) = record { text = step_text e (step e s); ledger = some (step e s).next }

@@ -1,16 +1,12 @@
 -- 01, "What an event does": Read.
 use Rattle.std.specs.Prelude.{ℕ, ◌-◌, cond, List, [], ◌∷◌, eqb, ℤ, pos, drop, get_or}
-use Rattle.std.proofs.Math.Option.{Option, none, some}
+use Rattle.std.proofs.Math.Option.{Option, none, some, get_or as else_value}
 use Rattle.rules.specs.Ledger.{Write, Commit, Books}
 
 -- What a list of writes puts at a key, if it writes it.
 unfoldable pub put_at : ℕ → List Write → Option ℤ
 put_at key [] = none
 put_at key (w ∷ ws) = cond (eqb key w.key) (some w.value) (put_at key ws)
-
-abbrev pub else_value : Option ℤ → ℤ → ℤ
-else_value none other = other
-else_value (some value) other = value
 
 -- The value of the newest of some commits that writes the key, else the value at the floor.
 unfoldable pub newest_value : ℕ → List Commit → List ℤ → ℤ

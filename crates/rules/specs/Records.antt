@@ -1,6 +1,6 @@
 -- 01, "The log as text": one line, and the record that it is.
 use Rattle.std.specs.Prelude.{ℕ, Bool, false, cond, List, [], ◌∷◌, eqb, ltb, length}
-use Rattle.std.proofs.Math.Option.{Option, none, some}
+use Rattle.std.proofs.Math.Option.{Option, none, some, bind}
 use Rattle.rules.specs.Partitions.{Ballot, aye, nay}
 use Rattle.rules.specs.Ledger.{Write}
 use Rattle.rules.specs.Events.{Event, delivery, vote, change, read, Snapshot, at, newest}
@@ -26,15 +26,10 @@ pub data Record : Type 0 where
   event : Event → Record
   unreadable : Record
 
--- Both or nothing.
-abbrev pub and_then : {A B : Type 0} → Option A → (A → Option B) → Option B
-and_then none f = none
-and_then (some x) f = f x
-
 -- "lists parted by commas, `-` for an empty list": every part must be readable.
 unfoldable pub each_part : {A : Type 0} → (List ℕ → Option A) → List (List ℕ) → Option (List A)
 each_part f [] = some []
-each_part f (part ∷ parts) = and_then (f part) (λ x. and_then (each_part f parts) (λ xs. some (x ∷ xs)))
+each_part f (part ∷ parts) = bind (f part) (λ x. bind (each_part f parts) (λ xs. some (x ∷ xs)))
 
 abbrev pub is_dash : List ℕ → Bool
 is_dash [] = false
@@ -48,7 +43,7 @@ list_of f bs = cond (is_dash bs) (some []) (each_part f (split comma bs))
 unfoldable pub write_parts : List (List ℕ) → Option Write
 write_parts [] = none
 write_parts (k ∷ []) = none
-write_parts (k ∷ v ∷ []) = and_then (number key_limit k) (λ key. and_then (signed v) (λ value. some (record { key = key; value = value })))
+write_parts (k ∷ v ∷ []) = bind (number key_limit k) (λ key. bind (signed v) (λ value. some (record { key = key; value = value })))
 write_parts (k ∷ v ∷ more ∷ rest) = none
 
 unfoldable pub a_write : List ℕ → Option Write
@@ -75,7 +70,7 @@ or_unreadable (some r) = r
 -- "O partitions, own, k"
 unfoldable pub opening_fields : List (List ℕ) → Option Record
 opening_fields (p ∷ o ∷ k ∷ []) =
-    and_then (number byte_limit p) (λ partitions. and_then (number byte_limit o) (λ own. and_then (number key_limit k) (λ threshold. some (opens partitions own threshold))))
+    bind (number byte_limit p) (λ partitions. bind (number byte_limit o) (λ own. bind (number key_limit k) (λ threshold. some (opens partitions own threshold))))
 opening_fields [] = none
 opening_fields (p ∷ []) = none
 opening_fields (p ∷ o ∷ []) = none
@@ -84,8 +79,8 @@ opening_fields (p ∷ o ∷ k ∷ more ∷ rest) = none
 -- "D identity, partition set, st, reads, writes as key=value"
 unfoldable pub delivery_fields : List (List ℕ) → Option Record
 delivery_fields (i ∷ p ∷ s ∷ r ∷ w ∷ []) =
-    and_then (number word_limit i) (λ identity. and_then (number byte_limit p) (λ partitions. and_then (number word_limit s) (λ st.
-    and_then (list_of (number key_limit) r) (λ reads. and_then (list_of a_write w) (λ writes.
+    bind (number word_limit i) (λ identity. bind (number byte_limit p) (λ partitions. bind (number word_limit s) (λ st.
+    bind (list_of (number key_limit) r) (λ reads. bind (list_of a_write w) (λ writes.
     some (event (delivery (record { identity = identity; partitions = partitions; st = st; reads = reads; writes = writes }))))))))
 delivery_fields [] = none
 delivery_fields (i ∷ []) = none
@@ -97,7 +92,7 @@ delivery_fields (i ∷ p ∷ s ∷ r ∷ w ∷ more ∷ rest) = none
 -- "V identity, partition, Y or N"
 unfoldable pub vote_fields : List (List ℕ) → Option Record
 vote_fields (i ∷ p ∷ y ∷ []) =
-    and_then (number word_limit i) (λ identity. and_then (number byte_limit p) (λ partition. and_then (a_ballot y) (λ b. some (event (vote identity partition b)))))
+    bind (number word_limit i) (λ identity. bind (number byte_limit p) (λ partition. bind (a_ballot y) (λ b. some (event (vote identity partition b)))))
 vote_fields [] = none
 vote_fields (i ∷ []) = none
 vote_fields (i ∷ p ∷ []) = none
@@ -105,13 +100,13 @@ vote_fields (i ∷ p ∷ y ∷ more ∷ rest) = none
 
 -- "K k"
 unfoldable pub change_fields : List (List ℕ) → Option Record
-change_fields (k ∷ []) = and_then (number key_limit k) (λ threshold. some (event (change threshold)))
+change_fields (k ∷ []) = bind (number key_limit k) (λ threshold. some (event (change threshold)))
 change_fields [] = none
 change_fields (k ∷ more ∷ rest) = none
 
 -- "R key, st"
 unfoldable pub read_fields : List (List ℕ) → Option Record
-read_fields (k ∷ s ∷ []) = and_then (number key_limit k) (λ key. and_then (a_snapshot s) (λ st. some (event (read key st))))
+read_fields (k ∷ s ∷ []) = bind (number key_limit k) (λ key. bind (a_snapshot s) (λ st. some (event (read key st))))
 read_fields [] = none
 read_fields (k ∷ []) = none
 read_fields (k ∷ s ∷ more ∷ rest) = none

@@ -1,6 +1,7 @@
 -- 01, "A state is sound when": each condition of the list, as a test that computes.
 use Rattle.std.specs.Prelude.{ℕ, ◌+◌, min, Bool, true, not, ◌&&◌, List, [], ◌∷◌, map, eqb, leb, length}
-use Rattle.rules.specs.Lists.{all, member}
+use Rattle.std.specs.List.{list_all}
+use Rattle.rules.specs.Lists.{member}
 use Rattle.rules.specs.Sizes.{keys, most_waiting, most_kept, most_k, most_dc}
 use Rattle.rules.specs.Partitions.{bad_set, from_others}
 use Rattle.rules.specs.Keys.{good_set}
@@ -31,6 +32,7 @@ unfoldable pub different : List ℕ → Bool
 different [] = true
 different (x ∷ xs) = not (member x xs) && different xs
 
+-- The identities of the waiting list.
 abbrev pub identities : List Entry → List ℕ
 identities es = map (λ e. e.transaction.identity) es
 
@@ -46,11 +48,14 @@ good_entry partitions own dc e =
     && from_others own e.transaction.partitions e.heard.nays
     && leb e.rt (dc + most_k)
 
+-- "A state is sound when: sizes fit the table; kept commits number the smaller of SC and 64; SC plus waiting is at most DC; every stored set is within
+-- its limits and ascending; waiting identities are nonzero and different; each waiting partition set holds our own and none beyond the number opened;
+-- stored votes come from other involved partitions; every rt is at most DC + 31."
 unfoldable pub sound : State → Bool
 sound s =
     fits s
     && kept_count s
     && counted s
-    && all good_commit s.books.kept
+    && list_all good_commit s.books.kept
     && different (identities s.waiting)
-    && all (good_entry s.clock.partitions s.clock.own s.clock.dc) s.waiting
+    && list_all (good_entry s.clock.partitions s.clock.own s.clock.dc) s.waiting

@@ -1,7 +1,9 @@
 -- 01, "A whole run", as bytes: what the program reads, and what it must write. `|` stands for the tab.
 use Rattle.std.specs.Prelude.{ℕ, List, [], ◌∷◌, ◌≡◌, refl}
+use Rattle.std.proofs.Math.Option.{bind}
 use Rattle.rules.specs.Ledger.{sizes_fit}
-use Rattle.rules.specs.Bytes.{split, is_digit, digits_value, well_led, number, signed, decimal_from, decimal, signed_text}
+use Rattle.rules.specs.Refusals.{opening_refusal}
+use Rattle.rules.specs.Bytes.{split, is_digit, digits_value, well_led, number, signed, decimal_from, decimal_text, signed_text}
 use Rattle.rules.specs.Records.{each_part, list_of, write_parts, a_write, a_ballot, a_snapshot, opening_fields, delivery_fields, vote_fields, change_fields, read_fields, by_letter, by_fields, record_of}
 use Rattle.rules.specs.AnswerText.{refusal_text, opened_text, outcome_text, finishes_text, delivery_text, vote_text, change_text, read_text, answer_text, step_text}
 use Rattle.rules.specs.Program.{open_record, event_record, take_record, take_lines, whole_lines, run_text}
@@ -49,9 +51,9 @@ the_answers =
 
 pub the_whole_run_as_text : (run_text the_log).text ≡ the_answers
 unfolding
-    computed sizes_fit the_log the_answers
-    split is_digit digits_value well_led number signed decimal_from decimal signed_text
-    each_part list_of write_parts a_write a_ballot a_snapshot
+    computed sizes_fit opening_refusal the_log the_answers
+    split is_digit digits_value well_led number signed decimal_from decimal_text signed_text
+    bind each_part list_of write_parts a_write a_ballot a_snapshot
     opening_fields delivery_fields vote_fields change_fields read_fields by_letter by_fields record_of
     refusal_text opened_text outcome_text finishes_text delivery_text vote_text change_text read_text answer_text step_text
     open_record event_record take_record take_lines whole_lines run_text

@@ -1,8 +1,8 @@
 -- What a sound state says of rows: their counts are at most 8, their keys ascend and are below 1,024, and the keys stand in the table as parts of it.
 use Rattle.std.specs.Prelude.{ℕ, zero, suc, ◌+◌, ◌-◌, ◌≤◌, ◌<◌, min, Bool, true, false, not, List, [], ◌∷◌, ◌≡◌, ℤ, length, get_or}
+use Rattle.std.specs.List.{list_any, list_all}
 use Rattle.std.proofs.Common.{take, drop, ap, sym, ◌∙◌, subst, arith, ltb-false, leb-false}
 use Rattle.std.proofs.lemmas.Bool.{not-true, not-false}
-use Rattle.rules.specs.Lists.{any, all}
 use Rattle.rules.specs.Sizes.{keys, most_keys, most_kept}
 use Rattle.rules.specs.Keys.{bad_key, too_many, bad_keys, ascending, good_set}
 use Rattle.rules.specs.Ledger.{keys_of}
@@ -21,10 +21,10 @@ pub record GoodKeys (xs : List ℕ) : Type 0 where
   pub ascends : ascending xs ≡ true
   pub low : (i : ℕ) → i < length xs → get_or xs i 0 < keys
 
-any_at_index : (f : ℕ → Bool) (xs : List ℕ) (i : ℕ) → any f xs ≡ false → i < length xs → f (get_or xs i 0) ≡ false
+any_at_index : (f : ℕ → Bool) (xs : List ℕ) (i : ℕ) → list_any f xs ≡ false → i < length xs → f (get_or xs i 0) ≡ false
 any_at_index f [] i h low = absurd (omega arith)
-any_at_index f (x ∷ xs) zero h low = or_left (f x) (any f xs) h
-any_at_index f (x ∷ xs) (suc i) h low = any_at_index f xs i (or_right (f x) (any f xs) h) (omega arith)
+any_at_index f (x ∷ xs) zero h low = or_left (f x) (list_any f xs) h
+any_at_index f (x ∷ xs) (suc i) h low = any_at_index f xs i (or_right (f x) (list_any f xs) h) (omega arith)
 
 pub good_keys : (xs : List ℕ) → good_set xs ≡ true → GoodKeys xs
 unfolding good_set bad_keys
@@ -33,8 +33,8 @@ good_keys xs h =
     let bad = not-true (bad_keys xs) (and_right (not (too_many xs)) (not (bad_keys xs)) h) in
     record {
       few = ltb-false most_keys (length xs) many;
-      ascends = not-false (ascending xs) (or_right (any bad_key xs) (not (ascending xs)) bad);
-      low = λ i below. leb-false keys (get_or xs i 0) (any_at_index bad_key xs i (or_left (any bad_key xs) (not (ascending xs)) bad) below);
+      ascends = not-false (ascending xs) (or_right (list_any bad_key xs) (not (ascending xs)) bad);
+      low = λ i below. leb-false keys (get_or xs i 0) (any_at_index bad_key xs i (or_left (list_any bad_key xs) (not (ascending xs)) bad) below);
     }
 
 -- A row with two good sets.
@@ -84,25 +84,25 @@ WaitingGood n book = (i : ℕ) → i < n → GoodRow (waiting_words book i)
 abbrev pub KeptGood : ℕ → List ℕ → Type 0
 KeptGood sc book = (v : ℕ) → 1 ≤ v → v ≤ sc → sc < v + 64 → GoodRow (kept_words book v)
 
-all_tab_at : {A : Type 0} (f : A → Bool) (n : ℕ) (g : ℕ → A) → all f (tab n g) ≡ true → (i : ℕ) → i < n → f (g i) ≡ true
+all_tab_at : {A : Type 0} (f : A → Bool) (n : ℕ) (g : ℕ → A) → list_all f (tab n g) ≡ true → (i : ℕ) → i < n → f (g i) ≡ true
 unfolding tab
 all_tab_at f zero g h i low = absurd (omega arith)
-all_tab_at f (suc n) g h zero low = and_left (f (g 0)) (all f (tab n (λ j. g (suc j)))) h
-all_tab_at f (suc n) g h (suc i) low = all_tab_at f n (λ j. g (suc j)) (and_right (f (g 0)) (all f (tab n (λ j. g (suc j)))) h) i (omega arith)
+all_tab_at f (suc n) g h zero low = and_left (f (g 0)) (list_all f (tab n (λ j. g (suc j)))) h
+all_tab_at f (suc n) g h (suc i) low = all_tab_at f n (λ j. g (suc j)) (and_right (f (g 0)) (list_all f (tab n (λ j. g (suc j)))) h) i (omega arith)
 
 pub waiting_entry_good : (partitions own dc n : ℕ) (book : List ℕ) (sums : List ℤ)
-    → all (good_entry partitions own dc) (waiting_view n book sums) ≡ true → (i : ℕ) → i < n → GoodEntry partitions own dc (entry_at book sums i)
+    → list_all (good_entry partitions own dc) (waiting_view n book sums) ≡ true → (i : ℕ) → i < n → GoodEntry partitions own dc (entry_at book sums i)
 unfolding waiting_view
 waiting_entry_good partitions own dc n book sums h i low =
     entry_facts partitions own dc (entry_at book sums i) (all_tab_at (good_entry partitions own dc) n (entry_at book sums) h i low)
 
 pub waiting_good : (partitions own dc n : ℕ) (book : List ℕ) (sums : List ℤ)
-    → all (good_entry partitions own dc) (waiting_view n book sums) ≡ true → WaitingGood n book
+    → list_all (good_entry partitions own dc) (waiting_view n book sums) ≡ true → WaitingGood n book
 unfolding waiting_view entry_at
 waiting_good partitions own dc n book sums h i low =
     entry_row_good partitions own dc (waiting_words book i) _ (all_tab_at (good_entry partitions own dc) n (entry_at book sums) h i low)
 
-pub kept_good : (sc : ℕ) (book : List ℕ) (sums : List ℤ) → all good_commit (kept_view sc book sums) ≡ true → KeptGood sc book
+pub kept_good : (sc : ℕ) (book : List ℕ) (sums : List ℤ) → list_all good_commit (kept_view sc book sums) ≡ true → KeptGood sc book
 unfolding kept_view commit_at
 kept_good sc book sums h v some low near =
     let e : sc - (sc - v) ≡ v = omega arith in

@@ -1,9 +1,8 @@
 -- Joining: the rows from a place on move up by one, and the newcomer's row is laid into the gap. The waiting list then has it at that place; kept
 -- commits, values and counters see nothing of it.
-use Rattle.std.specs.Prelude.{ℕ, suc, ◌+◌, ◌*◌, ◌-◌, ◌≤◌, ◌<◌, min, List, ◌≡◌, refl, ℤ, length, get_or}
+use Rattle.std.specs.Prelude.{ℕ, suc, ◌+◌, ◌*◌, ◌-◌, ◌≤◌, ◌<◌, min, List, ◌≡◌, refl, ℤ, length, get_or, insert}
 use Rattle.std.proofs.Common.{sym, ap, ◌∙◌, arith}
 use Rattle.std.proofs.Math.Path.{ap₂}
-use Rattle.rules.specs.Lists.{insert_at}
 use Rattle.rules.specs.Sizes.{most_kept}
 use Rattle.laws.specs.Cuts.{cut, put, length_cut, length_put, cut_put_below, cut_put_above, cut_put_within, cut_cut, get_or_cut}
 use Rattle.laws.specs.Tabs.{tab_insert, tab_same}
@@ -113,7 +112,7 @@ module _ (book : List ℕ) (sums : List ℤ) (n i : ℕ) (first reads keys : Lis
 pub joined_waiting : (book : List ℕ) (sums : List ℤ) (n i identity set st rt : ℕ) (reads keys : List ℕ) (amounts : List ℤ)
     → book_words ≤ length book → sums_words ≤ length sums → n < 32 → i ≤ n → length reads ≤ 8 → length keys ≤ 8 → length amounts ≡ length keys
     → waiting_view (suc n) (joined_book book n i (first_words identity set st rt reads keys) reads keys) (joined_sums sums n i amounts)
-    ≡ insert_at i (newcomer identity set st rt reads keys amounts) (waiting_view n book sums)
+    ≡ insert (waiting_view n book sums) i (newcomer identity set st rt reads keys amounts)
 unfolding waiting_view entry_at waiting_words joined_book joined_sums
 joined_waiting book sums n i identity set st rt reads keys amounts long long_sums room low few_reads few_keys same =
     let first = first_words identity set st rt reads keys in

@@ -1,7 +1,7 @@
 -- What becomes of a newcomer, on rows: the rules' fate of the state that the tables hold.
 use Rattle.std.specs.Prelude.{ℕ, ◌+◌, ◌-◌, ◌≤◌, not, cond, List, ◌≡◌, eqb, ℤ, pos, length, get_or}
+use Rattle.std.specs.List.{list_any}
 use Rattle.std.proofs.Common.{◌∙◌, arith}
-use Rattle.rules.specs.Lists.{any}
 use Rattle.rules.specs.Sizes.{most_kept}
 use Rattle.rules.specs.Partitions.{only}
 use Rattle.rules.specs.Ledger.{Write, Transaction, Clock, keys_of, is_local}
@@ -25,9 +25,9 @@ lent_keys keys amounts =
 -- The three numbered rules on rows, at the risen DC.
 unfoldable pub row_fate : ℕ → ℕ → ℕ → ℕ → ℕ → ℕ → List ℕ → List ℕ → List ℕ → Fate
 row_fate own dc sc n set st reads keys book =
-    cond (any (row_clash (not (eqb set (only own))) reads keys) (tab (sc - st) (λ j. kept_words book (sc - j)))) (abort 1)
+    cond (list_any (row_clash (not (eqb set (only own))) reads keys) (tab (sc - st) (λ j. kept_words book (sc - j)))) (abort 1)
     (cond (eqb set (only own)) (placed (place (row_blocks reads) (row_passes own dc keys) (tab n (waiting_words book))))
-    (cond (any (row_clash (not (eqb set (only own))) reads keys) (tab n (waiting_words book))) (abort 2) (join n)))
+    (cond (list_any (row_clash (not (eqb set (only own))) reads keys) (tab n (waiting_words book))) (abort 2) (join n)))
 
 pub fate_row : (c : Clock) (sc n identity set st : ℕ) (reads keys : List ℕ) (amounts : List ℤ) (book : List ℕ) (sums : List ℤ)
     → st ≤ sc → sc ≤ st + most_kept

@@ -2,10 +2,10 @@
 -- entry or commit that the row holds.
 use Prim.Native.Nat.{ℕ, zero, suc, ◌-◌, ◌≤◌, min}
 use Rattle.std.specs.Prelude.{Bool, not, List, ◌≡◌, eqb, leb, ℤ, get_or}
+use Rattle.std.specs.List.{list_any, list_all}
 use Rattle.std.proofs.Math.Bool.{◌&&◌, ◌||◌}
 use Rattle.std.proofs.Math.Path.{refl, ap, ap₂}
 use Rattle.std.proofs.Common.{◌∙◌, arith}
-use Rattle.rules.specs.Lists.{any, all}
 use Rattle.rules.specs.Sizes.{most_kept}
 use Rattle.rules.specs.Partitions.{only, any_outstanding, every_vote_yes}
 use Rattle.rules.specs.Keys.{meet}
@@ -66,12 +66,12 @@ passes_row c t w a = refl
 
 -- A test of each of a function's first values, and another test of another's: the same where they agree.
 module _ {A B : Type 0} where
-  pub any_tab_same : (n : ℕ) (f : A → Bool) (g : ℕ → A) (h : B → Bool) (k : ℕ → B) → ((i : ℕ) → f (g i) ≡ h (k i)) → any f (tab n g) ≡ any h (tab n k)
+  pub any_tab_same : (n : ℕ) (f : A → Bool) (g : ℕ → A) (h : B → Bool) (k : ℕ → B) → ((i : ℕ) → f (g i) ≡ h (k i)) → list_any f (tab n g) ≡ list_any h (tab n k)
   unfolding tab
   any_tab_same zero f g h k same = refl
   any_tab_same (suc n) f g h k same = ap₂ ◌||◌ (same 0) (any_tab_same n f (λ i. g (suc i)) h (λ i. k (suc i)) (λ i. same (suc i)))
 
-  pub all_tab_same : (n : ℕ) (f : A → Bool) (g : ℕ → A) (h : B → Bool) (k : ℕ → B) → ((i : ℕ) → f (g i) ≡ h (k i)) → all f (tab n g) ≡ all h (tab n k)
+  pub all_tab_same : (n : ℕ) (f : A → Bool) (g : ℕ → A) (h : B → Bool) (k : ℕ → B) → ((i : ℕ) → f (g i) ≡ h (k i)) → list_all f (tab n g) ≡ list_all h (tab n k)
   unfolding tab
   all_tab_same zero f g h k same = refl
   all_tab_same (suc n) f g h k same = ap₂ ◌&&◌ (same 0) (all_tab_same n f (λ i. g (suc i)) h (λ i. k (suc i)) (λ i. same (suc i)))
@@ -90,19 +90,19 @@ module _ {A B : Type 0} where
 
 -- The rules' tests of the lists that the tables hold, on rows.
 module _ (t : Transaction) (book : List ℕ) (sums : List ℤ) where
-  pub waiting_clash : (own n : ℕ) → any (clash_entry own t) (waiting_view n book sums)
-      ≡ any (row_clash (not (is_local own t)) t.reads (keys_of t.writes)) (tab n (waiting_words book))
+  pub waiting_clash : (own n : ℕ) → list_any (clash_entry own t) (waiting_view n book sums)
+      ≡ list_any (row_clash (not (is_local own t)) t.reads (keys_of t.writes)) (tab n (waiting_words book))
   unfolding waiting_view entry_at
   waiting_clash own n =
       any_tab_same n (clash_entry own t) (entry_at book sums) (row_clash (not (is_local own t)) t.reads (keys_of t.writes)) (waiting_words book)
       (λ i. clash_entry_row own t (waiting_words book i) _)
 
   pub commits_clash : (own sc : ℕ) → t.st ≤ sc → sc - t.st ≤ most_kept
-      → any (clash_commit own t) (commits_after t.st (books_view sc book sums))
-      ≡ any (row_clash (not (is_local own t)) t.reads (keys_of t.writes)) (tab (sc - t.st) (λ j. kept_words book (sc - j)))
+      → list_any (clash_commit own t) (commits_after t.st (books_view sc book sums))
+      ≡ list_any (row_clash (not (is_local own t)) t.reads (keys_of t.writes)) (tab (sc - t.st) (λ j. kept_words book (sc - j)))
   unfolding commits_after books_view kept_view commit_at
   commits_clash own sc taken near =
-      ap (any (clash_commit own t)) (take_tab (sc - t.st) (min sc most_kept) (λ j. commit_at book sums (sc - j)) (omega arith))
+      ap (list_any (clash_commit own t)) (take_tab (sc - t.st) (min sc most_kept) (λ j. commit_at book sums (sc - j)) (omega arith))
       ∙ any_tab_same (sc - t.st) (clash_commit own t) (λ j. commit_at book sums (sc - j)) (row_clash (not (is_local own t)) t.reads (keys_of t.writes))
       (λ j. kept_words book (sc - j)) (λ j. clash_commit_row own t (kept_words book (sc - j)) _)
 

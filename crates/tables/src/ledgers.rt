@@ -1,6 +1,8 @@
 // What is lent: the two tables of a ledger, and a transaction that is delivered.
-ghost use Rattle.std.specs.Prelude.{◌≤◌, ◌≡◌, length};
+ghost use Rattle.std.specs.Prelude.{◌≤◌, ◌≡◌, true, length};
+ghost use Rattle.rules.specs.Soundness.{sound};
 ghost use Rattle.tables.specs.Layout.{book_words, sums_words};
+ghost use Rattle.tables.specs.View.{view};
 
 use crate::Book;
 
@@ -12,11 +14,13 @@ pub struct Sizes {
     pub k: u32,
 }
 
-// Two tables to read, of any length and with anything in them.
+// Two tables to read, of any length and with anything in them. Who has looked at them already, and found a sound state there, says so: they aren't looked at again.
 #[derive(Clone, Copy)]
 pub struct Lent<'a> {
     pub book: &'a [u32],
     pub sums: &'a [i64],
+    pub looked: bool,
+    pub ghost found: { looked ≡ true → sound (view book.now sums.now) ≡ true },
 }
 
 // Two tables to change, long enough for a state. Whoever takes it promises that it still lends the same two (`same_book`, `same_sums`): only so do callers know what

@@ -1,0 +1,10 @@
+pub mod Splits
+pub mod Feeding
+pub mod Meaning
+pub mod Cutting
+pub mod AnyCutting
+pub mod Answering
+pub mod Taking
+pub mod Walking
+pub mod Ending
+pub mod OneAnswer
