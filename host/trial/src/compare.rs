@@ -7,8 +7,9 @@ use std::thread;
 /// From a log's text to its answers.
 pub type Answering<'a> = &'a dyn Fn(&[u8]) -> Vec<u8>;
 
+/// Without a newline behind the last line: a log that ends with one has an empty line last.
 pub fn text(lines: &[Vec<u8>]) -> Vec<u8> {
-    lines.iter().flat_map(|line| [line, &b"\n"[..]].concat()).collect()
+    lines.join(&b'\n')
 }
 
 pub fn by_second(log: &[u8]) -> Vec<u8> {

@@ -9,18 +9,26 @@ mod damage;
 mod maker;
 
 mod compare;
+mod moved;
 mod tally;
+
+#[cfg(test)]
+mod tests;
 
 use std::env;
 use std::process::ExitCode;
 
 use compare::{by_program, by_second, shrink, text, Answering};
 use maker::Maker;
+use moved::moved_votes_differ;
 use tally::Tally;
 
 const HELP: &str = "usage: trial PROGRAM [LINES] [SEED]\n\nCompares PROGRAM with the second program on LINES lines or more (200000) of random logs.";
 /// So many lines bring every answer.
 const LINES: u64 = 200_000;
+
+/// Pairs of logs with votes moved.
+const PAIRS: u64 = 200;
 
 fn main() -> ExitCode {
     let arguments: Vec<String> = env::args().skip(1).collect();
@@ -28,12 +36,14 @@ fn main() -> ExitCode {
         eprintln!("{HELP}");
         return ExitCode::FAILURE;
     };
-    let differ = compare_logs(&|log| by_program(program, log), lines, seed);
-    if differ {
-        ExitCode::FAILURE
-    } else {
-        ExitCode::SUCCESS
+    let answering = |log: &[u8]| by_program(program, log);
+    let moved = compare_moved_votes(&answering, seed);
+    let (logs, differ) = compare_logs(&answering, lines, seed);
+    println!("{logs} logs compared, {} differ", differ + moved);
+    if differ + moved > 0 {
+        return ExitCode::FAILURE;
     }
+    ExitCode::SUCCESS
 }
 
 fn read_arguments(arguments: &[String]) -> Option<(&str, u64, u64)> {
@@ -45,26 +55,26 @@ fn read_arguments(arguments: &[String]) -> Option<(&str, u64, u64)> {
     }
 }
 
-/// Whether the answers to some log differ: the comparison ends there. Log by log the seed rises by 1, so that any log is the first of its own seed.
-fn compare_logs(answering: Answering, lines: u64, seed: u64) -> bool {
+/// How many logs were compared, and how many differ: none, or the last one. Log by log the seed rises by 1, so that any log is the first of its own seed.
+fn compare_logs(answering: Answering, lines: u64, seed: u64) -> (u64, u64) {
     let mut tally = Tally::default();
     let (mut logs, mut compared) = (0, 0);
-    let mut differ = false;
-    while compared < lines && !differ {
-        let log = Maker::new(seed.wrapping_add(logs)).log();
-        let answers = by_second(&text(&log));
-        differ = answering(&text(&log)) != answers;
-        if differ {
-            show_difference(answering, log.clone(), seed.wrapping_add(logs));
+    while compared < lines {
+        let seed = seed.wrapping_add(logs);
+        let log = Maker::new(seed).log();
+        let log_text = text(&log);
+        let answers = by_second(&log_text);
+        logs += 1;
+        if answering(&log_text) != answers {
+            show_difference(answering, log, seed);
+            return (logs, 1);
         }
         tally.add(&answers);
-        logs += 1;
-        compared += log.len() as u64;
+        compared += log_text.split_inclusive(|&byte| byte == b'\n').count() as u64;
     }
     println!("{compared} lines in {logs} logs: {tally}");
-    assert!(differ || lines < LINES || tally.missing().is_empty(), "never occurred: {:?}", tally.missing());
-    println!("{logs} logs compared, {} differ", u64::from(differ));
-    differ
+    assert!(lines < LINES || tally.missing().is_empty(), "never occurred: {:?}", tally.missing());
+    (logs, 0)
 }
 
 fn show_difference(answering: Answering, log: Vec<Vec<u8>>, seed: u64) {
@@ -72,4 +82,17 @@ fn show_difference(answering: Answering, log: Vec<Vec<u8>>, seed: u64) {
     println!("seed {seed}: the answers differ on this log:\n{}", String::from_utf8_lossy(&least));
     println!("the second program answers:\n{}", String::from_utf8_lossy(&by_second(&least)));
     println!("the program answers:\n{}", String::from_utf8_lossy(&answering(&least)));
+}
+
+/// How many pairs differ: none, or the last one.
+fn compare_moved_votes(answering: Answering, seed: u64) -> u64 {
+    for pair in 0..PAIRS {
+        let seed = seed.wrapping_add(pair);
+        if let Some(difference) = moved_votes_differ(answering, seed) {
+            println!("seed {seed}: with votes moved in their windows the answers differ: {difference}");
+            return 1;
+        }
+    }
+    println!("{PAIRS} pairs of logs with votes moved in their windows, 0 differ");
+    0
 }

@@ -1,6 +1,8 @@
 //! Makes a log line by line. Each line is answered at once by the second program, and the next one is drawn with those answers in view: only so do logs
 //! reach full lists, deep reordering, folded commits and every refusal.
 
+use std::collections::HashMap;
+
 use crate::damage::damage;
 use crate::random::Random;
 use crate::shape::Shape;
@@ -8,41 +10,47 @@ use crate::shape::Shape;
 pub struct Maker {
     pub random: Random,
     pub shape: Shape,
-    pub lines: Vec<Vec<u8>>,
     program: second::Program,
     pub identity: u64,
     // What the answers have said.
-    pub opened: bool,
+    opened: bool,
     pub dc: u64,
     pub k: u64,
     sc: u64,
     waiting: Vec<u64>,
+    /// The partition set of each delivery, by identity: only so do most votes count.
+    sets: HashMap<u64, u64>,
 }
 
 impl Maker {
     pub fn new(seed: u64) -> Self {
         let mut random = Random::new(seed);
         let shape = Shape::draw(&mut random);
-        Maker { random, shape, lines: Vec::new(), program: second::Program::default(), identity: 0, opened: false, dc: 0, k: 0, sc: 0, waiting: Vec::new() }
+        let program = second::Program::default();
+        Maker { random, shape, program, identity: 0, opened: false, dc: 0, k: 0, sc: 0, waiting: Vec::new(), sets: HashMap::new() }
     }
 
-    /// A whole log.
+    /// A whole log, and behind most an empty line, for the last newline: "The last line may lack its newline."
     pub fn log(mut self) -> Vec<Vec<u8>> {
+        let mut log = Vec::new();
         for _ in 0..self.shape.lines {
-            let line = self.line().into_bytes();
-            let damaged = self.random.chance(self.shape.damaged);
-            let line = if damaged { damage(line, &mut self.random) } else { line };
-            self.add(line);
+            let line = self.line();
+            log.push(self.add(line));
         }
-        self.lines
+        if self.random.chance(700) {
+            log.push(Vec::new());
+        }
+        log
     }
 
-    /// Adds a line, and learns from its answers.
-    pub fn add(&mut self, line: Vec<u8>) {
+    /// The line as it comes into the log, now and then damaged. Its answers are learnt from.
+    pub fn add(&mut self, line: String) -> Vec<u8> {
+        let damaged = self.random.chance(self.shape.damaged);
+        let line = if damaged { damage(line.into_bytes(), &mut self.random) } else { line.into_bytes() };
         let mut answers = Vec::new();
         self.program.answer_line(&line, &mut answers);
-        self.lines.push(line);
         String::from_utf8_lossy(&answers).lines().for_each(|answer| self.learn(answer));
+        line
     }
 
     fn learn(&mut self, answer: &str) {
@@ -68,7 +76,7 @@ impl Maker {
     fn line(&mut self) -> String {
         if self.random.chance(if self.opened { 1 } else { 700 }) {
             self.opening()
-        } else if self.random.chance(self.shape.votes) {
+        } else if self.random.chance(if self.waiting.is_empty() { 10 } else { self.shape.votes }) {
             self.vote()
         } else if self.random.chance(20) {
             self.change()
@@ -106,16 +114,24 @@ impl Maker {
         }
     }
 
-    /// For the most part on an entry near the head: the head is what holds up the others.
+    /// For the most part on an entry near the head, which is what holds up the others, and from a partition that it waits for.
     fn vote(&mut self) -> String {
-        let identity = if self.waiting.is_empty() || self.odd() {
-            self.random.below(self.identity + 2)
-        } else {
-            let depth = self.random.below(self.waiting.len() as u64);
-            self.waiting[self.random.below(depth + 1) as usize]
-        };
-        let partition = if self.odd() { self.random.below(257) } else { self.random.below(self.shape.partitions) };
+        if self.waiting.is_empty() || self.odd() {
+            let (identity, partition) = (self.random.below(self.identity + 2), self.random.below(257));
+            return self.vote_of(identity, partition);
+        }
+        let depth = self.random.below(self.waiting.len() as u64);
+        let identity = self.waiting[self.random.below(depth + 1) as usize];
+        let others = self.others(identity);
+        let stray = others.is_empty() || self.random.chance(50);
+        let partition = if stray { self.random.below(self.shape.partitions) } else { self.random.one_of(&others) };
         self.vote_of(identity, partition)
+    }
+
+    /// The partitions whose votes a transaction needs.
+    pub fn others(&self, identity: u64) -> Vec<u64> {
+        let set = self.sets.get(&identity).copied().unwrap_or(0);
+        (0..self.shape.partitions).filter(|&partition| partition != self.shape.own && set >> partition & 1 == 1).collect()
     }
 
     pub fn vote_of(&mut self, identity: u64, partition: u64) -> String {
@@ -123,12 +139,7 @@ impl Maker {
         format!("V\t{identity}\t{partition}\t{vote}")
     }
 
-    fn delivery(&mut self) -> String {
-        let partitions = self.partition_set();
-        self.delivery_to(partitions)
-    }
-
-    pub fn partition_set(&mut self) -> u64 {
+    fn partition_set(&mut self) -> u64 {
         if self.odd() {
             return self.random.below(257);
         }
@@ -136,14 +147,16 @@ impl Maker {
         others | 1 << self.shape.own
     }
 
-    pub fn delivery_to(&mut self, partitions: u64) -> String {
+    pub fn delivery(&mut self) -> String {
         self.identity += 1;
+        let partitions = self.partition_set();
         let identity = if self.odd() {
             let earlier = self.identity.saturating_sub(self.random.below(30));
             self.random.one_of(&[0, earlier, 4_294_967_295, 4_294_967_296])
         } else {
             self.identity
         };
+        self.sets.insert(identity, partitions);
         let st = self.snapshot();
         let reads: Vec<String> = self.keys().iter().map(u64::to_string).collect();
         let writes: Vec<String> = self.keys().iter().map(|key| format!("{key}={}", self.value())).collect();
