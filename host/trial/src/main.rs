@@ -58,23 +58,23 @@ fn read_arguments(arguments: &[String]) -> Option<(&str, u64, u64)> {
 /// How many logs were compared, and how many differ: none, or the last one. Log by log the seed rises by 1, so that any log is the first of its own seed.
 fn compare_logs(answering: Answering, lines: u64, seed: u64) -> (u64, u64) {
     let mut tally = Tally::default();
-    let (mut logs, mut compared) = (0, 0);
-    while compared < lines {
+    let (mut logs, mut compared, mut differ) = (0, 0, 0);
+    while compared < lines && differ == 0 {
         let seed = seed.wrapping_add(logs);
         let log = Maker::new(seed).log();
         let log_text = text(&log);
         let answers = by_second(&log_text);
+        tally.add(&answers);
         logs += 1;
+        compared += log_text.split_inclusive(|&byte| byte == b'\n').count() as u64;
         if answering(&log_text) != answers {
             show_difference(answering, log, seed);
-            return (logs, 1);
+            differ = 1;
         }
-        tally.add(&answers);
-        compared += log_text.split_inclusive(|&byte| byte == b'\n').count() as u64;
     }
     println!("{compared} lines in {logs} logs: {tally}");
-    assert!(lines < LINES || tally.missing().is_empty(), "never occurred: {:?}", tally.missing());
-    (logs, 0)
+    assert!(differ > 0 || lines < LINES || tally.missing().is_empty(), "never occurred: {:?}", tally.missing());
+    (logs, differ)
 }
 
 fn show_difference(answering: Answering, log: Vec<Vec<u8>>, seed: u64) {

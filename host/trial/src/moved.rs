@@ -5,7 +5,7 @@ use crate::compare::{text, Answering};
 use crate::maker::Maker;
 use crate::random::Random;
 
-/// A delivery or a change.
+/// A delivery or a change, or the opening before them.
 struct Move {
     line: Vec<u8>,
     delivery: bool,
@@ -22,7 +22,6 @@ struct Vote {
 
 /// A log whose votes aren't placed yet.
 struct Movable {
-    opening: Vec<u8>,
     moves: Vec<Move>,
     votes: Vec<Vote>,
     /// "The same end": every key at SC.
@@ -50,9 +49,10 @@ impl Movable {
     fn new(seed: u64) -> Self {
         let mut maker = Maker::new(seed);
         (maker.shape.odd, maker.shape.damaged) = (0, 0); // so that each identity comes once, and each line is what it says
-        let opening = maker.opening();
         let reads = (0..maker.shape.keys).map(|key| format!("R\t{key}\t-").into_bytes()).collect();
-        let mut movable = Movable { opening: maker.add(opening), moves: Vec::new(), votes: Vec::new(), reads };
+        let opening = maker.opening();
+        let opening = Move { line: maker.add(opening), delivery: false, dc: 0 };
+        let mut movable = Movable { moves: vec![opening], votes: Vec::new(), reads };
         for _ in 0..maker.shape.lines / 4 {
             movable.add_move(&mut maker);
         }
@@ -86,13 +86,13 @@ impl Movable {
             let gap = &mut gaps[vote.first_gap + random.place(self.last_gap(vote) - vote.first_gap)];
             gap.insert(random.place(gap.len()), vote.line.clone());
         }
-        let mut log = vec![self.opening.clone()];
-        let behind = gaps.split_off(self.moves.len()).concat();
-        for (votes, next) in gaps.into_iter().zip(&self.moves) {
+        let mut log = Vec::new();
+        for (gap, votes) in gaps.into_iter().enumerate() {
             log.extend(votes);
-            log.push(next.line.clone());
+            log.extend(self.moves.get(gap).map(|next| next.line.clone()));
         }
-        [log, behind, self.reads.clone()].concat()
+        log.extend_from_slice(&self.reads);
+        log
     }
 
     fn last_gap(&self, vote: &Vote) -> usize {
