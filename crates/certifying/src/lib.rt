@@ -16,12 +16,12 @@ use tables::{Kept, SoundRow, Waiting};
 
 // What a newcomer touches: the keys that it reads and the keys that it writes.
 #[derive(Clone, Copy)]
-pub struct Newcomer<'a> {
-    pub reads: Keys<'a>,
-    pub keys: Keys<'a>,
+pub struct Newcomer<'r, 'k> {
+    pub reads: Keys<'r>,
+    pub keys: Keys<'k>,
 }
 
-impl Newcomer<'_> {
+impl Newcomer<'_, '_> {
     // The row "writes a key it reads".
     #[tactic(auto, unfolding(tables::specs::Tested::row_blocks))]
     fn is_blocked_by(self, row: SoundRow<'_>) -> bool
@@ -49,7 +49,12 @@ impl Newcomer<'_> {
 }
 
 // The newcomer clashes with a commit "of version st+1 to SC"; the newest is tested first. (`global` as in `clashes_with`, here and below.)
-pub fn clashes_with_commits(kept: Kept<'_>, st: u32, newcomer: Newcomer<'_>, global: bool) -> bool
+pub fn clashes_with_commits(
+    kept: Kept<'_>,
+    st: u32,
+    newcomer: Newcomer<'_, '_>,
+    global: bool,
+) -> bool
     requires st_le_sc { st ≤ kept.sc }
     requires sc_bound { kept.sc ≤ st + 64 }
     ensures { result ≡ list_any (row_clash global newcomer.entry.reads.list.now newcomer.entry.keys.list.now) (tab (kept.entry.sc - st) (λ j. kept_words kept.entry.book.words.now (kept.entry.sc - j))) }
@@ -58,14 +63,14 @@ pub fn clashes_with_commits(kept: Kept<'_>, st: u32, newcomer: Newcomer<'_>, glo
 }
 
 // "tested in the same two ways against every waiting entry"
-pub fn clashes_with_waiting(waiting: Waiting<'_>, newcomer: Newcomer<'_>, global: bool) -> bool
+pub fn clashes_with_waiting(waiting: Waiting<'_>, newcomer: Newcomer<'_, '_>, global: bool) -> bool
     ensures { result ≡ list_any (row_clash global newcomer.entry.reads.list.now newcomer.entry.keys.list.now) (tab waiting.entry.count (waiting_words waiting.entry.book.words.now)) }
 {
     (0..waiting.count).any(|i| newcomer.clashes_with(waiting.row(i), global))
 }
 
 // One of the first n waiting entries "writes a key it reads".
-fn is_blocked(waiting: Waiting<'_>, n: usize, newcomer: Newcomer<'_>) -> bool
+fn is_blocked(waiting: Waiting<'_>, n: usize, newcomer: Newcomer<'_, '_>) -> bool
     requires { n ≤ waiting.count }
     ensures { result ≡ list_any (row_blocks newcomer.entry.reads.list.now) (tab n (waiting_words waiting.entry.book.words.now)) }
 {
@@ -73,7 +78,7 @@ fn is_blocked(waiting: Waiting<'_>, n: usize, newcomer: Newcomer<'_>) -> bool
 }
 
 // Of the same four as the question itself (who waits, our own, DC, the newcomer), the walk back from the end of the list: the first place such that every entry from there on may be passed.
-fn reach(waiting: Waiting<'_>, own: Partition, dc: u32, newcomer: Newcomer<'_>) -> usize
+fn reach(waiting: Waiting<'_>, own: Partition, dc: u32, newcomer: Newcomer<'_, '_>) -> usize
     ensures { Reached (row_passes own.number dc newcomer.entry.keys.list.now) (tab waiting.entry.count (waiting_words waiting.entry.book.words.now)) result }
 {
     (0..waiting.count)
@@ -87,7 +92,7 @@ pub fn earliest_place(
     waiting: Waiting<'_>,
     own: Partition,
     dc: u32,
-    newcomer: Newcomer<'_>,
+    newcomer: Newcomer<'_, '_>,
 ) -> Option<usize>
     ensures { result ≡ given (place (row_blocks newcomer.entry.reads.list.now) (row_passes own.number dc newcomer.entry.keys.list.now) (tab waiting.entry.count (waiting_words waiting.entry.book.words.now))) }
 {

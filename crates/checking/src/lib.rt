@@ -132,6 +132,9 @@ fn kept_good(book: Book<'_>, sc: u32) -> bool
 }
 
 // "A state is sound when", of the state that the tables hold. Amounts never matter to it.
+// Never inlined: inside a caller whose `Result` goes through memory the compiler looks at the tables again at each call, where by itself it answers a `bool` and
+// one look serves a run of reads of tables that nothing changes.
+#[inline(never)]
 #[tactic(auto, using(crate::specs::Whole::sound_laws))]
 pub fn is_sound(book: Book<'_>, sums: Sums<'_>) -> bool
     ensures { result ≡ sound (view book.entry.words.now sums.entry.amounts.now) }

@@ -20,7 +20,7 @@ fn place_local(
     waiting: Waiting<'_>,
     own: Partition,
     dc: u32,
-    newcomer: Newcomer<'_>,
+    newcomer: Newcomer<'_, '_>,
 ) -> Result<usize, Reason>
     ensures { result ≡ fate_of (placed (place (row_blocks newcomer.entry.reads.list.now) (row_passes own.number dc newcomer.entry.keys.list.now) (tab waiting.entry.count (waiting_words waiting.entry.book.words.now)))) }
 {
@@ -32,7 +32,7 @@ pub fn judge(
     book: Book<'_>,
     dc: u32,
     t: Transaction<'_>,
-    newcomer: Newcomer<'_>,
+    newcomer: Newcomer<'_, '_>,
 ) -> Result<usize, Reason>
     requires { Judgeable (get_or book.words.now own_at 0) (get_or book.words.now sc_at 0) (get_or book.words.now waiting_at 0) t.st book.words.now }
     ensures { result ≡ fate_of (row_fate (get_or book.entry.words.now own_at 0) dc (get_or book.entry.words.now sc_at 0) (get_or book.entry.words.now waiting_at 0) t.entry.set t.entry.st newcomer.entry.reads.list.now newcomer.entry.keys.list.now book.entry.words.now) }

@@ -1,10 +1,6 @@
 -- Two ascending lists walked side by side: what they share, by what is shared behind the smaller of their first keys.
 use Rattle.std.specs.Prelude.{ℕ, ◌<◌, true, false, List, [], ◌∷◌, ◌≡◌, refl, ltb, length}
 use Rattle.std.specs.Prelude.{Some, None, is_some}
-use Rattle.std.specs.Ordering.{nat_cmp}
-use Rattle.std.specs.declared.cmp.Ordering.{Ordering}
-use Rattle.std.specs.declared.cmp.Ordering.TheVariants.{Less, Equal, Greater}
-use Rattle.std.proofs.lemmas.Cmp.{ranked}
 use Rattle.std.proofs.Math.Option.{Option, none, some}
 use borrow.Author.Tests.{ltb-true, lt-ltb, eq-eqb, ne_eqb}
 use native.Mathlib.Omega.{arith}
@@ -77,17 +73,6 @@ module _ (x y : ℕ) {xs ys ours theirs : List ℕ} (one : ours ≡ x ∷ xs) (o
   pub shared_other : ascending ours ≡ true → y < x → shared ours theirs ≡ shared ours ys
   unfolding ascending
   shared_other a h = rw (one, other) (pass_other y (x ∷ xs) ys (above_first y x xs h (rw one at a)))
-
--- What a comparison of two keys says.
-module _ (x y : ℕ) {answer : Ordering} (says : answer ≡ nat_cmp x y) where
-  pub is_less : answer ≡ Less → x < y
-  is_less e = rw e at (ranked x y answer says)
-
-  pub is_equal : answer ≡ Equal → x ≡ y
-  is_equal e = rw e at (ranked x y answer says)
-
-  pub is_greater : answer ≡ Greater → y < x
-  is_greater e = rw e at (ranked x y answer says)
 
 -- Two lists meet exactly where they share a key.
 pub given_meets : (xs ys : List ℕ) → is_some (given (shared xs ys)) ≡ meet xs ys

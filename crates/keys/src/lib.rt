@@ -5,8 +5,6 @@ ghost use Rattle.std.specs.Prelude.{true, ◌≡◌};
 ghost use Rattle.rules.specs.Keys.{ascending, bad_keys, shared, meet};
 ghost use Rattle.laws.specs.Options.{given};
 
-use std::cmp::Ordering;
-
 // 01, "The ledger's sizes": keys are 0 to 1,023. The limit of this check alone, so that a wrong one shows here.
 const KEYS: u32 = 1024;
 
@@ -44,10 +42,14 @@ impl Keys<'_> {
             ours.split_first(),
             theirs.split_first(),
         ) {
-            match one.cmp(their) {
-                Ordering::Equal => return Some(*one),
-                Ordering::Less => ours = our_rest,
-                Ordering::Greater => theirs = their_rest,
+            // no `match` on what `cmp` gives: an `Ordering` is first made and then branched on, which takes twice the time
+            if *one == *their {
+                return Some(*one);
+            }
+            if *one < *their {
+                ours = our_rest;
+            } else {
+                theirs = their_rest;
             }
         }
         None

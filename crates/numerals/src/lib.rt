@@ -48,7 +48,7 @@ fn is_well_led(s: &[u8]) -> bool
 }
 
 // The digits from the left on. By hand: the library's `parse` reads text and takes a `+`, and the tests for leading zeros and for
-// the field's limit would stand beside it all the same. Each product and each sum is checked, so that none overflows whatever the limit: what doesn't fit 64 bits is over every limit.
+// the field's limit would stand beside it all the same. The limit is tested before each product and sum, and guards them: a value that it lets through fits 64 bits.
 #[tactic(auto, using(crate::specs::Reading::reading))]
 fn digits(s: &[u8], limit: u64) -> Option<u64>
     ensures { result ≡ given (read_from limit 0 s.now) }
@@ -58,10 +58,11 @@ fn digits(s: &[u8], limit: u64) -> Option<u64>
         if !b.is_ascii_digit() {
             return None;
         }
-        v = v.checked_mul(10)?.checked_add(u64::from(*b - b'0'))?;
-        if limit < v {
+        let d = u64::from(*b - b'0');
+        if limit / 10 < v || limit - v * 10 < d {
             return None;
         }
+        v = v * 10 + d;
     }
     Some(v)
 }

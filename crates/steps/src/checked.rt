@@ -55,7 +55,7 @@ impl<'a> Checked<'a> {
     }
 
     // Where a local newcomer may stand.
-    pub fn place(self, newcomer: Newcomer<'_>) -> Option<usize> {
+    pub fn place(self, newcomer: Newcomer<'_, '_>) -> Option<usize> {
         let own = Partition {
             number: self.book.own(),
         };
@@ -63,7 +63,7 @@ impl<'a> Checked<'a> {
     }
 
     // One of those that wait clashes.
-    pub fn clashes_with_waiting(self, newcomer: Newcomer<'_>) -> Clash {
+    pub fn clashes_with_waiting(self, newcomer: Newcomer<'_, '_>) -> Clash {
         Clash {
             as_local: certifying::clashes_with_waiting(self.waiting(), newcomer, false),
             as_global: certifying::clashes_with_waiting(self.waiting(), newcomer, true),
@@ -71,7 +71,7 @@ impl<'a> Checked<'a> {
     }
 
     // One of the commits since a snapshot clashes; nothing is said of a snapshot that isn't kept.
-    pub fn clashes_with_commits(self, st: u32, newcomer: Newcomer<'_>) -> Option<Clash> {
+    pub fn clashes_with_commits(self, st: u32, newcomer: Newcomer<'_, '_>) -> Option<Clash> {
         let sc = self.book.sc();
         if sc < st || VERSIONS < sc - st {
             return None;
