@@ -2,9 +2,13 @@ pub mod Splits
 pub mod Feeding
 pub mod Meaning
 pub mod Cutting
+pub mod Hosts
 pub mod AnyCutting
 pub mod Answering
 pub mod Taking
 pub mod Walking
 pub mod Ending
 pub mod OneAnswer
+pub mod Progress
+pub mod LogBytes
+pub mod LogEvents
