@@ -12,3 +12,6 @@ pub mod OneAnswer
 pub mod Progress
 pub mod LogBytes
 pub mod LogEvents
+pub mod OneLine
+pub mod OutLines
+pub mod LineCounts

@@ -23,7 +23,13 @@ pub record Sizes : Type 0 where
   pub own : ℕ
   pub k : ℕ
 
--- What opens the engine: the first O whose sizes are in the table. The records before it, and those behind it.
+-- "opening: sizes outside the table" is refused, so an O is accepted where they are in it.
+abbrev pub is_accepted : Record → Bool
+is_accepted (opens partitions own k) = sizes_fit partitions own k
+is_accepted (event e) = false
+is_accepted unreadable = false
+
+-- What opens the engine: the first O that is accepted. The records before it, and those behind it.
 pub record Opened : Type 0 where
   pub before : List Record
   pub sizes : Sizes

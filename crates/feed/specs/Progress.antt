@@ -97,7 +97,7 @@ nothing_of : (l : List ℕ) → length l ≡ 0 → l ≡ []
 nothing_of [] h = refl
 nothing_of (b ∷ bs) h = absurd (omega arith)
 
-abbrev HasRoom : List ℕ → Type 0
+abbrev pub HasRoom : List ℕ → Type 0
 HasRoom buffer = LONGEST ≤ length buffer
 
 calls_take_all : (ends : List (List ℕ)) → Each HasRoom ends → (left : List ℕ) → length left ≤ length ends → (p : Standing) (book : List ℕ) (sums : List ℤ)
