@@ -15,3 +15,4 @@ pub mod LogEvents
 pub mod OneLine
 pub mod OutLines
 pub mod LineCounts
+pub mod Promises

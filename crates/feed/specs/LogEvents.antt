@@ -83,7 +83,7 @@ opening_here : (partitions own k : ℕ) (rs : List Record) → sizes_fit partiti
 unfolding take_records take_record open_record opening_refusal first_of opened_by text_before
 opening_here partitions own k rs q = rw q (ap (after_text (opened_text partitions own k)) (behind_is rs (opening partitions own k)))
 
-opening_refused : (partitions own k : ℕ) → sizes_fit partitions own k ≡ false → take_record (opens partitions own k) none ≡ record { text = refusal_text 13; ledger = none }
+pub opening_refused : (partitions own k : ℕ) → sizes_fit partitions own k ≡ false → take_record (opens partitions own k) none ≡ record { text = refusal_text 13; ledger = none }
 unfolding take_record open_record opening_refusal first_of
 opening_refused partitions own k q = rw q
 
