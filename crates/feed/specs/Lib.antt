@@ -16,3 +16,4 @@ pub mod OneLine
 pub mod OutLines
 pub mod LineCounts
 pub mod Promises
+pub mod RealBytes

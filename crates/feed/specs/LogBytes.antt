@@ -3,11 +3,11 @@ use Rattle.std.specs.Prelude.{ℕ, ◌+◌, Bool, false, not, cond, ◌||◌, Li
 use Rattle.std.specs.List.{filter, count_by}
 use Rattle.std.proofs.Math.Option.{Option, none, some}
 use Rattle.rules.specs.Ledger.{State, opening, sizes_fit}
-use Rattle.rules.specs.Events.{Event, delivery, vote, change, read, Step}
+use Rattle.rules.specs.Events.{Event, delivery, vote, change, read, Answer, Step}
 use Rattle.rules.specs.Logs.{steps, last}
 use Rattle.rules.specs.Bytes.{split, newline}
 use Rattle.rules.specs.Records.{Record, opens, event, unreadable, record_of}
-use Rattle.rules.specs.AnswerText.{refusal_text, opened_text, step_text}
+use Rattle.rules.specs.AnswerText.{refusal_text, delivery_text, step_text}
 use Rattle.rules.specs.Program.{whole_lines}
 
 -- "One record a line"
@@ -123,3 +123,12 @@ at_deliveries (unreadable ∷ rs) (line ∷ ls) = at_deliveries rs ls
 -- "each delivery's own answer", behind the opening: one record before it, or it itself, has one line each.
 abbrev pub delivery_lines : Opened → List ℕ → List (List ℕ)
 delivery_lines o bytes = at_deliveries o.behind (drop (length o.before + 1) (own_lines bytes))
+
+-- The lines of such answers, one for each delivery.
+unfoldable pub told_lines : List Event → List Answer → List (List ℕ)
+told_lines [] answers = []
+told_lines (delivery t ∷ es) [] = []
+told_lines (delivery t ∷ es) (a ∷ answers) = lines (delivery_text t.identity a) ++ told_lines es answers
+told_lines (vote i p b ∷ es) answers = told_lines es answers
+told_lines (change k ∷ es) answers = told_lines es answers
+told_lines (read key st ∷ es) answers = told_lines es answers

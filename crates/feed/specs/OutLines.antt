@@ -14,7 +14,7 @@ use Rattle.rules.specs.Logs.{steps, finishes}
 use Rattle.rules.specs.Records.{Record, opens, event, unreadable}
 use Rattle.rules.specs.AnswerText.{refusal_text, opened_text, outcome_text, finishes_text, delivery_text, answer_text, step_text}
 use Rattle.claims.specs.Timing.{moves, own_answers}
-use Rattle.feed.specs.LogBytes.{lines, Sizes, Opened, events_in, start, events_of, text_before, text_behind, letter_c, letter_b, begins, lines_of, is_finish, finish_lines, own_lines, at_deliveries, delivery_lines}
+use Rattle.feed.specs.LogBytes.{lines, Sizes, Opened, events_in, start, events_of, text_before, text_behind, letter_c, letter_b, begins, lines_of, is_finish, finish_lines, own_lines, at_deliveries, delivery_lines, told_lines}
 use Rattle.feed.specs.LogEvents.{number_before, text_before_one}
 use Rattle.feed.specs.OneLine.{no_lines, OneLine, refusal_line, opened_line, outcome_letter, outcome_line, answer_of, own_letter, own_line}
 
@@ -155,33 +155,20 @@ own_length (event e ∷ rs) s = ap suc (own_length rs (step e s).next)
 own_length (opens partitions own k ∷ rs) s = ap suc (own_length rs s)
 own_length (unreadable ∷ rs) s = ap suc (own_length rs s)
 
--- A delivery's own line, from its own answer.
-abbrev first_of_them : List (List ℕ) → List ℕ
-first_of_them [] = []
-first_of_them (line ∷ ls) = line
-
-told_line : Transaction → Answer → List ℕ
-told_line t a = first_of_them (lines (delivery_text t.identity a))
-
-event_told : (t : Transaction) (s : State) → event_line (delivery t) s ≡ told_line t (step (delivery t) s).answer
-unfolding event_line told_line answer_text
+-- A delivery's own line is that of its own answer.
+event_told : (t : Transaction) (s : State) → lines (delivery_text t.identity (step (delivery t) s).answer) ≡ event_line (delivery t) s ∷ []
+unfolding event_line answer_text
 event_told t s =
-    let a = (step (delivery t) s).answer in
-    ap first_of_them (sym ((own_line (delivery t) s).before []) ∙ ap lines (append-nil (delivery_text t.identity a)))
-
-pub told_lines : List Event → List Answer → List (List ℕ)
-told_lines [] answers = []
-told_lines (delivery t ∷ es) [] = []
-told_lines (delivery t ∷ es) (a ∷ answers) = told_line t a ∷ told_lines es answers
-told_lines (vote i p b ∷ es) answers = told_lines es answers
-told_lines (change k ∷ es) answers = told_lines es answers
-told_lines (read key st ∷ es) answers = told_lines es answers
+    ap lines (sym (append-nil (delivery_text t.identity (step (delivery t) s).answer)))
+    ∙ (own_line (delivery t) s).before []
+    ∙ ap (λ (ls : List (List ℕ)). event_line (delivery t) s ∷ ls) no_lines
 
 deliveries_told : (rs : List Record) (s : State) → at_deliveries rs (own_behind rs s) ≡ told_lines (moves (events_in rs)) (own_answers (events_in rs) s)
 unfolding own_behind events_in moves own_answers told_lines at_deliveries
 deliveries_told [] s = refl
 deliveries_told (event (delivery t) ∷ rs) s =
-    ap₂ (λ (l : List ℕ) (ls : List (List ℕ)). l ∷ ls) (event_told t s) (deliveries_told rs (step (delivery t) s).next)
+    ap (λ (ls : List (List ℕ)). event_line (delivery t) s ∷ ls) (deliveries_told rs (step (delivery t) s).next)
+    ∙ ap (λ (ls : List (List ℕ)). ls ++ told_lines (moves (events_in rs)) (own_answers (events_in rs) (step (delivery t) s).next)) (sym (event_told t s))
 deliveries_told (event (vote i p b) ∷ rs) s = deliveries_told rs (step (vote i p b) s).next
 deliveries_told (event (change k) ∷ rs) s = deliveries_told rs (step (change k) s).next
 deliveries_told (event (read key st) ∷ rs) s = deliveries_told rs (step (read key st) s).next
@@ -246,11 +233,6 @@ module _ (o : Opened) where
 -- The whole text of a log with none.
 pub unopened_lines : (rs : List Record) → lines (text_before rs) ≡ lines_before rs
 unopened_lines rs = ap lines (sym (append-nil (text_before rs))) ∙ before_are rs [] ∙ ap (λ (ls : List (List ℕ)). lines_before rs ++ ls) no_lines ∙ append-nil (lines_before rs)
-
-pub unopened_finish_lines : (rs : List Record) → finish_lines (text_before rs) ≡ []
-unfolding lines_before
-unopened_finish_lines rs =
-    ap (filter is_finish) (unopened_lines rs) ∙ kept_none is_finish (λ (r : Record). number_line (number_before r)) (λ r. number_no_finish (number_before r)) rs
 
 pub unopened_line_each : (rs : List Record) → length (own_lines (text_before rs)) ≡ length rs
 unfolding lines_before

@@ -26,9 +26,9 @@ use Rattle.claims.specs.FullList.{WaitsForVotes, full_list_waits_for_votes}
 use Rattle.feed.specs.Hosts.{Host, log, at_the_end, out, ledger_of, Whole}
 use Rattle.feed.specs.AnyCutting.{any_cutting}
 use Rattle.feed.specs.Progress.{HasRoom, enough_calls}
-use Rattle.feed.specs.LogBytes.{lines, records, Sizes, Opened, opened_by, start, events_of, text_before, text_behind, letter_w, letter_a, letter_c, letter_b, lines_of, finish_lines, own_lines, delivery_lines}
-use Rattle.feed.specs.LogEvents.{given, log_gives, Opening, opened_exactly, opening_refused}
-use Rattle.feed.specs.OutLines.{told_lines, text_of, its_finish_lines, its_delivery_lines, own_line_each, unopened_line_each}
+use Rattle.feed.specs.LogBytes.{lines, records, Sizes, Opened, opened_by, events_in, start, events_of, text_before, text_behind, letter_w, letter_a, letter_c, letter_b, lines_of, finish_lines, own_lines, delivery_lines, told_lines}
+use Rattle.feed.specs.LogEvents.{given, log_gives, Opening, opened_exactly, opening_refused, event_text}
+use Rattle.feed.specs.OutLines.{text_of, its_finish_lines, its_delivery_lines, own_line_each, unopened_line_each}
 use Rattle.feed.specs.LineCounts.{w_lines, a_lines, c_lines, b_lines}
 
 -- With room for the longest answer at each call, and as many calls at the end as the log has bytes, nothing is left: "gets an answer and never a stop".
@@ -72,6 +72,14 @@ module _ (h : Host) (whole : Whole h) where
 
     pub ledger_by_events : ledger_of h ≡ some (last (events_of o) (start o))
     ledger_by_events = ledger_at_the_end ∙ ap (λ (t : Told). t.ledger) (log_gives (log h) ∙ ap (given (records (log h))) is)
+
+    -- The text of one event: that of its step, in the state behind the events before it.
+    pub bytes_of_an_event : (rs more : List Record) (e : Event) → o.behind ≡ rs ++ event e ∷ more
+        → let now = last (events_in rs) (start o) in
+        text_behind o.behind (steps (events_of o) (start o))
+        ≡ text_behind rs (steps (events_in rs) (start o)) ++ (step_text e (step e now) ++ text_behind more (steps (events_in more) (step e now).next))
+    bytes_of_an_event rs more e stands =
+        ap (λ (all : List Record). text_behind all (steps (events_in all) (start o))) stands ∙ event_text rs more e (start o)
 
     -- "After its event, one line a finish"
     pub finishes_by_events : finish_lines (out h) ≡ lines (finishes_text (finishes (events_of o) (start o)))
@@ -128,40 +136,47 @@ module _ (h : Host) (whole : Whole h) where
     sound_at_the_end =
         of_some_log (λ bytes t. sound t ≡ true) (λ o opens_so. log_sound (events_of o) o.sizes.partitions o.sizes.own o.sizes.k opens_so.accepted)
 
+-- Two logs of which no more is asked than demand 3 asks: records before the opening, unreadable lines, second openings and reads may be others, and a vote may stand elsewhere in its time.
+pub record SameMovesAndVotes (o q : Opened) : Type 0 where
+  -- "engines opened alike"
+  pub sizes : o.sizes ≡ q.sizes
+  -- "the same deliveries and threshold changes in the same order"
+  pub moved : moves (events_of o) ≡ moves (events_of q)
+  -- "the same votes"
+  pub voted : (i p : ℕ) (b : Ballot) → has_vote i p b (events_of o) ≡ has_vote i p b (events_of q)
+  -- "all identities different, each vote after its delivery", "at most one from each", "before the first delivery, taken or refused, that comes when the counter has reached that
+  -- transaction's threshold"
+  pub timed : Timed (start o) (events_of o)
+  pub also_timed : Timed (start q) (events_of q)
+
 -- "each delivery's own answer, the order, outcomes and versions of all finishes, and the final state are equal"
 pub record AlikeBytes (g h : Host) (o q : Opened) : Type 0 where
   pub answers : delivery_lines o (out g) ≡ delivery_lines q (out h)
   pub finishes : finish_lines (out g) ≡ finish_lines (out h)
   pub state : ledger_of g ≡ ledger_of h
 
--- Two logs, in any pieces and over tables of any content, that open an engine alike: with the same deliveries and threshold changes in the same order and the same votes, all in time
--- (Timed), whatever else stands in them and in whichever way the votes and reads stand between.
-module _ (g h : Host) (g_whole : Whole g) (h_whole : Whole h) (o q : Opened) (g_opens : opened_by (records (log g)) ≡ some o) (h_opens : opened_by (records (log h)) ≡ some q)
-    (alike : o.sizes ≡ q.sizes) (g_timed : Timed (start o) (events_of o)) (h_timed : Timed (start q) (events_of q)) (same_moves : moves (events_of o) ≡ moves (events_of q))
-    (same_votes : (i p : ℕ) (b : Ballot) → has_vote i p b (events_of o) ≡ has_vote i p b (events_of q)) where
-  same_start : start q ≡ start o
-  same_start = ap (λ (z : Sizes). opening z.partitions z.own z.k) (sym alike)
-
-  rules_alike : Alike (start o) (events_of o) (events_of q)
-  rules_alike =
-      demand_3 o.sizes.partitions o.sizes.own o.sizes.k (events_of o) (events_of q) g_timed (subst (λ (s : State). Timed s (events_of q)) same_start h_timed) same_moves same_votes
-
-  pub demand_3_of_bytes : AlikeBytes g h o q
-  demand_3_of_bytes =
-      record {
-        answers = deliveries_by_events g g_whole o g_opens
-            ∙ ap₂ told_lines same_moves rules_alike.answers
-            ∙ ap (λ (s : State). told_lines (moves (events_of q)) (own_answers (events_of q) s)) (sym same_start)
-            ∙ sym (deliveries_by_events h h_whole q h_opens);
-        finishes = finishes_by_events g g_whole o g_opens
-            ∙ ap (λ (fs : List Finish). lines (finishes_text fs)) rules_alike.told
-            ∙ ap (λ (s : State). lines (finishes_text (finishes (events_of q) s))) (sym same_start)
-            ∙ sym (finishes_by_events h h_whole q h_opens);
-        state = ledger_by_events g g_whole o g_opens
-            ∙ ap some rules_alike.state
-            ∙ ap (λ (s : State). some (last (events_of q) s)) (sym same_start)
-            ∙ sym (ledger_by_events h h_whole q h_opens);
-      }
+-- Demand 3, of any pieces and buffers and of tables of any content.
+pub demand_3_of_bytes : (g h : Host) → Whole g → Whole h → (o q : Opened) → opened_by (records (log g)) ≡ some o → opened_by (records (log h)) ≡ some q
+    → SameMovesAndVotes o q → AlikeBytes g h o q
+demand_3_of_bytes g h g_whole h_whole o q g_opens h_opens same =
+    let begun : start q ≡ start o = ap (λ (z : Sizes). opening z.partitions z.own z.k) (sym same.sizes) in
+    let alike : Alike (start o) (events_of o) (events_of q) =
+    demand_3 o.sizes.partitions o.sizes.own o.sizes.k (events_of o) (events_of q) same.timed
+    (subst (λ (s : State). Timed s (events_of q)) begun same.also_timed) same.moved same.voted in
+    record {
+      answers = deliveries_by_events g g_whole o g_opens
+          ∙ ap₂ told_lines same.moved alike.answers
+          ∙ ap (λ (s : State). told_lines (moves (events_of q)) (own_answers (events_of q) s)) (sym begun)
+          ∙ sym (deliveries_by_events h h_whole q h_opens);
+      finishes = finishes_by_events g g_whole o g_opens
+          ∙ ap (λ (fs : List Finish). lines (finishes_text fs)) alike.told
+          ∙ ap (λ (s : State). lines (finishes_text (finishes (events_of q) s))) (sym begun)
+          ∙ sym (finishes_by_events h h_whole q h_opens);
+      state = ledger_by_events g g_whole o g_opens
+          ∙ ap some alike.state
+          ∙ ap (λ (s : State). some (last (events_of q) s)) (sym begun)
+          ∙ sym (ledger_by_events h h_whole q h_opens);
+    }
 
 -- "13 [..] program: event before opening, or a second opening": whatever is said elsewhere, a record out of its turn is told so and changes nothing.
 abbrev pub only : ℕ → Option State → Told
