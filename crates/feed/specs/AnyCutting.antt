@@ -28,7 +28,7 @@ fits_again : (is_open : Bool) (m : Memory) → Fit is_open m → Fit is_open (ta
 fits_again is_open m fit = record { long = record { book = fit.long.book; sums = fit.long.sums; room = omega arith }; sound = fit.sound }
 
 -- What a call wrote stands in the front of its buffer.
-written : (buffer text : List ℕ) → take (length text) (put buffer 0 text) ≡ text
+pub written : (buffer text : List ℕ) → take (length text) (put buffer 0 text) ≡ text
 unfolding put
 written buffer text = take_at text (drop (0 + length text) buffer) (length text) refl
 

@@ -12,6 +12,7 @@ pub mod OneAnswer
 pub mod Progress
 pub mod LogBytes
 pub mod LogEvents
+pub mod ShortTables
 pub mod OneLine
 pub mod OutLines
 pub mod LineCounts

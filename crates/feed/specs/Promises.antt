@@ -18,6 +18,7 @@ use Rattle.rules.specs.AnswerText.{refusal_text, opened_text, finishes_text, ste
 use Rattle.rules.specs.Program.{Told, open_record, event_record, take_record, take_lines, whole_lines, run_text}
 use Rattle.tables.specs.Layout.{book_words, sums_words}
 use Rattle.laws.specs.Each.{Each}
+use Rattle.refusing.specs.Operands.{short}
 use Rattle.claims.specs.Soundness.{log_sound}
 use Rattle.claims.specs.Timing.{moves, has_vote, Timed, own_answers, Alike}
 use Rattle.claims.specs.Demand3.{demand_3}
@@ -28,6 +29,7 @@ use Rattle.feed.specs.AnyCutting.{any_cutting}
 use Rattle.feed.specs.Progress.{HasRoom, enough_calls}
 use Rattle.feed.specs.LogBytes.{lines, records, Sizes, Opened, opened_by, events_in, start, events_of, text_before, text_behind, letter_w, letter_a, letter_c, letter_b, lines_of, finish_lines, own_lines, delivery_lines, told_lines}
 use Rattle.feed.specs.LogEvents.{given, log_gives, Opening, opened_exactly, opening_refused, event_text}
+use Rattle.feed.specs.ShortTables.{Untouched, short_untouched}
 use Rattle.feed.specs.OutLines.{text_of, its_finish_lines, its_delivery_lines, own_line_each, unopened_line_each}
 use Rattle.feed.specs.LineCounts.{w_lines, a_lines, c_lines, b_lines}
 
@@ -177,6 +179,10 @@ demand_3_of_bytes g h g_whole h_whole o q g_opens h_opens same =
           ∙ ap (λ (s : State). some (last (events_of q) s)) (sym begun)
           ∙ sym (ledger_by_events h h_whole q h_opens);
     }
+
+-- "either: a lent table too short": every line is refused by 13 or 14, no engine is opened, and the tables stay as they were.
+pub short_tables : (h : Host) → short h.book h.sums ≡ true → Untouched h
+short_tables = short_untouched
 
 -- "13 [..] program: event before opening, or a second opening": whatever is said elsewhere, a record out of its turn is told so and changes nothing.
 abbrev pub only : ℕ → Option State → Told
