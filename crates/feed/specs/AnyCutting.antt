@@ -1,5 +1,5 @@
 -- A log may come in any pieces: what all calls write together, and the ledger that the tables hold after the last, are what the rules' program gives of the log in one piece.
-use Rattle.std.specs.Prelude.{ℕ, ◌+◌, ◌≤◌, Bool, true, false, List, [], ◌∷◌, ◌++◌, map, ◌≡◌, refl, ℤ, length, take, drop}
+use Rattle.std.specs.Prelude.{ℕ, ◌+◌, Bool, true, false, List, [], ◌∷◌, ◌++◌, map, ◌≡◌, refl, ℤ, length, take, drop}
 use Rattle.std.proofs.Math.Option.{Option, none}
 use Rattle.std.proofs.Common.{sym, ap, ◌∙◌, arith, append_assoc, append-nil, take_at}
 use Rattle.rules.specs.Ledger.{State}
@@ -8,9 +8,9 @@ use Rattle.rules.specs.Program.{Told, take_lines, whole_lines, run_text}
 use Rattle.laws.specs.Cuts.{put}
 use Rattle.engine.specs.Calls.{Memory}
 use Rattle.feed.specs.declared.Standing.{Standing}
-use Rattle.feed.specs.Feeding.{Taken, lent_memory, feeding}
+use Rattle.feed.specs.Feeding.{lent_memory, feeding}
 use Rattle.feed.specs.Meaning.{ledger, Fit}
-use Rattle.feed.specs.Cutting.{Continues, rest, rest_of, chunk_continues}
+use Rattle.feed.specs.Cutting.{rest, rest_of, chunk_continues}
 use Rattle.feed.specs.Hosts.{Piece, bytes_of, Run, run, beginning, Host, with_nothing, log, before_end, at_the_end, out, ledger_of, Whole}
 
 -- A call holds a finish list by itself, so of the memory that it leaves only the tables stay.

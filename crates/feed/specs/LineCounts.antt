@@ -1,7 +1,7 @@
 -- How many lines of the text that answers a log have a letter: those of the answers, and those of the finishes. So the counts of the log's lines are the counts of its events.
-use Rattle.std.specs.Prelude.{ℕ, ◌+◌, Bool, true, false, cond, List, [], ◌∷◌, ◌++◌, map, ◌≡◌, refl, eqb, length}
+use Rattle.std.specs.Prelude.{ℕ, ◌+◌, Bool, false, cond, List, [], ◌∷◌, ◌++◌, map, ◌≡◌, refl, eqb}
 use Rattle.std.specs.List.{count_by, sum_by}
-use Rattle.std.proofs.Common.{sym, ap, ◌∙◌, arith}
+use Rattle.std.proofs.Common.{ap, ◌∙◌, arith}
 use Rattle.std.proofs.lemmas.List.Sums.{sum_by-cons, sum_by-append}
 use Rattle.rules.specs.Ledger.{State}
 use Rattle.rules.specs.Closing.{Outcome, version, aborts, Finish}

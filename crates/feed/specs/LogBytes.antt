@@ -1,10 +1,9 @@
--- The words of the promises: the bytes of a log as records, an opening and events; the bytes out as lines.
+-- The words of the promises: the bytes of a log as records, an opening and events, and what their text must be; the bytes out as lines.
 use Rattle.std.specs.Prelude.{ℕ, ◌+◌, Bool, false, not, cond, ◌||◌, List, [], ◌∷◌, ◌++◌, map, eqb, length, drop}
 use Rattle.std.specs.List.{filter, count_by}
 use Rattle.std.proofs.Math.Option.{Option, none, some}
 use Rattle.rules.specs.Ledger.{State, opening, sizes_fit}
 use Rattle.rules.specs.Events.{Event, delivery, vote, change, read, Answer, Step}
-use Rattle.rules.specs.Logs.{steps, last}
 use Rattle.rules.specs.Bytes.{split, newline}
 use Rattle.rules.specs.Records.{Record, opens, event, unreadable, record_of}
 use Rattle.rules.specs.AnswerText.{refusal_text, delivery_text, step_text}
@@ -29,7 +28,7 @@ is_accepted (opens partitions own k) = sizes_fit partitions own k
 is_accepted (event e) = false
 is_accepted unreadable = false
 
--- What opens the engine: the first O that is accepted. The records before it, and those behind it.
+-- What opens the engine: the first O that is accepted, with the records before it and those behind it.
 pub record Opened : Type 0 where
   pub before : List Record
   pub sizes : Sizes
@@ -72,11 +71,11 @@ text_before (unreadable ∷ rs) = refusal_text 14 ++ text_before rs
 -- The text of the records behind it: of each event the text of its step, one after the other; between them 14 for a line that can't be read, 13 for
 -- "a second opening".
 unfoldable pub text_behind : List Record → List Step → List ℕ
-text_behind [] rs = []
-text_behind (event e ∷ more) [] = []
-text_behind (event e ∷ more) (r ∷ rs) = step_text e r ++ text_behind more rs
-text_behind (opens partitions own k ∷ more) rs = refusal_text 13 ++ text_behind more rs
-text_behind (unreadable ∷ more) rs = refusal_text 14 ++ text_behind more rs
+text_behind [] later = []
+text_behind (event e ∷ rs) [] = []
+text_behind (event e ∷ rs) (now ∷ later) = step_text e now ++ text_behind rs later
+text_behind (opens partitions own k ∷ rs) later = refusal_text 13 ++ text_behind rs later
+text_behind (unreadable ∷ rs) later = refusal_text 14 ++ text_behind rs later
 
 -- The first letters of answer lines: "W identity, DC, place; A identity, DC, reason", "C identity, version; or B identity".
 abbrev pub letter_w : ℕ
@@ -120,11 +119,11 @@ at_deliveries (event (read key st) ∷ rs) (line ∷ ls) = at_deliveries rs ls
 at_deliveries (opens partitions own k ∷ rs) (line ∷ ls) = at_deliveries rs ls
 at_deliveries (unreadable ∷ rs) (line ∷ ls) = at_deliveries rs ls
 
--- "each delivery's own answer", behind the opening: one record before it, or it itself, has one line each.
+-- "each delivery's own answer", of those behind the opening: the records before it and the opening itself have an own line each.
 abbrev pub delivery_lines : Opened → List ℕ → List (List ℕ)
 delivery_lines o bytes = at_deliveries o.behind (drop (length o.before + 1) (own_lines bytes))
 
--- The lines of such answers, one for each delivery.
+-- The same by the rules: the lines of the answers that deliveries get, one after the other.
 unfoldable pub told_lines : List Event → List Answer → List (List ℕ)
 told_lines [] answers = []
 told_lines (delivery t ∷ es) [] = []

@@ -1,16 +1,16 @@
 -- What the rules' program gives of a log, said by its events: the text of each step in turn with 13 and 14 between, and the state after the last.
-use Rattle.std.specs.Prelude.{ℕ, Bool, true, false, cond, List, [], ◌∷◌, ◌++◌, map, ◌↔◌, ◌≡◌, refl}
+use Rattle.std.specs.Prelude.{ℕ, true, false, List, [], ◌∷◌, ◌++◌, map, ◌↔◌, ◌≡◌, refl}
 use Rattle.std.specs.List.{list_any}
 use Rattle.std.proofs.Math.Option.{Option, none, some}
-use Rattle.std.proofs.Common.{sym, ap, ap₂, ◌∙◌, subst, append_assoc}
+use Rattle.std.proofs.Common.{sym, ap, ◌∙◌, subst, append_assoc}
 use Rattle.rules.specs.Ledger.{State, opening, sizes_fit}
-use Rattle.rules.specs.Events.{Event, Step}
+use Rattle.rules.specs.Events.{Event}
 use Rattle.rules.specs.Refusals.{first_of, opening_refusal, step}
 use Rattle.rules.specs.Logs.{steps, last}
 use Rattle.rules.specs.Records.{Record, opens, event, unreadable, record_of}
 use Rattle.rules.specs.AnswerText.{refusal_text, opened_text, step_text}
 use Rattle.rules.specs.Program.{Told, open_record, event_record, take_record, take_lines, run_text}
-use Rattle.laws.specs.Tests.{split, or_left, or_right, or_neither, any_at, never}
+use Rattle.laws.specs.Tests.{split, or_left, or_right, or_neither}
 use Rattle.feed.specs.LogBytes.{lines, records, Sizes, Opened, is_accepted, preceded, opened_by, events_in, start, events_of, text_before, text_behind}
 
 -- The program's lines, as records.

@@ -1,20 +1,16 @@
 -- A text of an answer or a finish is one line, with its letter: refusals and openings, an event's own answer, a finish.
-use Rattle.std.specs.Prelude.{ℕ, suc, ◌+◌, Bool, true, false, not, cond, ◌||◌, List, [], ◌∷◌, ◌++◌, map, ◌≡◌, refl, eqb, ℤ, length, drop}
-use Rattle.std.specs.List.{filter, count_by}
-use Rattle.std.proofs.Math.Option.{Option, none, some}
-use Rattle.std.proofs.Common.{sym, ap, ap₂, ◌∙◌, arith, append_assoc, append-nil}
-use Rattle.std.proofs.lemmas.List.Elements.{filter-append}
+use Rattle.std.specs.Prelude.{ℕ, false, List, [], ◌∷◌, ◌++◌, ◌≡◌, refl, eqb, ℤ}
+use Rattle.std.proofs.Math.Option.{Option}
+use Rattle.std.proofs.Common.{sym, ap, ◌∙◌, arith, append_assoc}
 use Rattle.rules.specs.Lists.{member}
 use Rattle.rules.specs.Partitions.{Ballot}
 use Rattle.rules.specs.Ledger.{Transaction, Clock, State}
 use Rattle.rules.specs.Delivery.{Fate, abort, join}
-use Rattle.rules.specs.Closing.{Outcome, version, aborts, Finish}
-use Rattle.rules.specs.Events.{Event, delivery, vote, change, read, Snapshot, Answer, refused, waits, aborted, voted, changed, value, Step, delivered, accepted, closing, deliver_with, deliver_at, take_vote, take_change, take_read}
+use Rattle.rules.specs.Closing.{Outcome, version, aborts}
+use Rattle.rules.specs.Events.{Event, delivery, vote, change, read, Snapshot, Answer, refused, waits, aborted, voted, changed, value, delivered, accepted, closing, deliver_with, deliver_at, take_vote, take_change, take_read}
 use Rattle.rules.specs.Refusals.{refusal, step}
-use Rattle.rules.specs.Logs.{steps, last, finishes}
-use Rattle.rules.specs.Bytes.{split, newline, tab_byte, decimal_text, signed_text, minus}
-use Rattle.rules.specs.Records.{Record, opens, event, unreadable}
-use Rattle.rules.specs.AnswerText.{field, end, refusal_text, opened_text, outcome_text, finishes_text, delivery_text, vote_text, change_text, read_text, answer_text, step_text}
+use Rattle.rules.specs.Bytes.{split, newline, tab_byte, decimal_text, signed_text}
+use Rattle.rules.specs.AnswerText.{field, end, refusal_text, opened_text, outcome_text, delivery_text, vote_text, change_text, read_text, answer_text}
 use Rattle.rules.specs.Program.{whole_lines}
 use Rattle.laws.specs.Tests as tests
 use Rattle.claims.specs.Steps.{step_accepted, step_refused, refused_or}

@@ -1,22 +1,21 @@
 -- The lines of the text that answers a log: an own line for each record and a line for each finish, in their order; how many there are with a letter.
-use Rattle.std.specs.Prelude.{ℕ, suc, ◌+◌, Bool, true, false, not, cond, ◌||◌, List, [], ◌∷◌, ◌++◌, map, ◌≡◌, refl, eqb, length, drop}
-use Rattle.std.specs.List.{filter, count_by, sum_by}
+use Rattle.std.specs.Prelude.{ℕ, suc, ◌+◌, Bool, true, false, not, ◌||◌, List, [], ◌∷◌, ◌++◌, map, ◌≡◌, refl, eqb, length, drop}
+use Rattle.std.specs.List.{filter}
 use Rattle.std.proofs.Math.Seq.{drop-append-add}
 use Rattle.std.proofs.Common.{sym, ap, ap₂, ◌∙◌, arith, append_assoc, append-nil, length-append}
 use Rattle.std.proofs.lemmas.List.{map-append, length-map}
 use Rattle.std.proofs.lemmas.List.Elements.{filter-append}
-use Rattle.std.proofs.lemmas.List.Sums.{sum_by-cons, sum_by-append}
 use Rattle.rules.specs.Ledger.{Transaction, State}
 use Rattle.rules.specs.Closing.{Outcome, version, aborts, Finish}
-use Rattle.rules.specs.Events.{Event, delivery, vote, change, read, Answer, refused, waits, aborted, voted, changed, value, Step}
+use Rattle.rules.specs.Events.{Event, delivery, vote, change, read, Answer, refused, waits, aborted, voted, changed, value}
 use Rattle.rules.specs.Refusals.{step}
 use Rattle.rules.specs.Logs.{steps, finishes}
 use Rattle.rules.specs.Records.{Record, opens, event, unreadable}
 use Rattle.rules.specs.AnswerText.{refusal_text, opened_text, outcome_text, finishes_text, delivery_text, answer_text, step_text}
 use Rattle.claims.specs.Timing.{moves, own_answers}
-use Rattle.feed.specs.LogBytes.{lines, Sizes, Opened, events_in, start, events_of, text_before, text_behind, letter_c, letter_b, begins, lines_of, is_finish, finish_lines, own_lines, at_deliveries, delivery_lines, told_lines}
+use Rattle.feed.specs.LogBytes.{lines, Opened, events_in, start, events_of, text_before, text_behind, letter_c, letter_b, is_finish, finish_lines, own_lines, at_deliveries, delivery_lines, told_lines}
 use Rattle.feed.specs.LogEvents.{number_before, text_before_one}
-use Rattle.feed.specs.OneLine.{no_lines, OneLine, refusal_line, opened_line, outcome_letter, outcome_line, answer_of, own_letter, own_line}
+use Rattle.feed.specs.OneLine.{no_lines, OneLine, refusal_line, opened_line, outcome_letter, outcome_line, own_letter, own_line}
 
 -- The line that a text is.
 abbrev pub the_line : {letter : ℕ} {text : List ℕ} → OneLine letter text → List ℕ

@@ -1,5 +1,5 @@
 -- A call gets on: one that isn't full takes all at the end of a log, and a full one with room for the longest answer takes a byte at least. So enough calls take the whole log.
-use Rattle.std.specs.Prelude.{ℕ, suc, ◌+◌, ◌-◌, ◌≤◌, ◌<◌, Bool, true, false, not, cond, ◌||◌, List, [], ◌∷◌, ◌++◌, map, ◌≡◌, refl, eqb, ltb, ℤ, length, drop}
+use Rattle.std.specs.Prelude.{ℕ, suc, ◌+◌, ◌≤◌, ◌<◌, Bool, true, false, not, ◌||◌, List, [], ◌∷◌, ◌++◌, map, ◌≡◌, refl, eqb, ltb, ℤ, length, drop}
 use Rattle.std.proofs.Common.{ap, ◌∙◌, arith, append-nil, length-append, length-drop, le-leb, eqb-true, true≢false}
 use Rattle.std.proofs.lemmas.Bool.{false≢true}
 use Rattle.rules.specs.Bytes.{split, onto_first, newline}
@@ -9,7 +9,7 @@ use Rattle.laws.specs.Tests as tests
 use Rattle.engine.specs.Calls.{Memory}
 use Rattle.answers.specs.declared.TheConstants.{LONGEST}
 use Rattle.feed.specs.declared.Standing.{Standing}
-use Rattle.feed.specs.Feeding.{Taken, has_room, is_left, tail_taken, lines_taken, feeding, fed}
+use Rattle.feed.specs.Feeding.{Taken, has_room, is_left, tail_taken, lines_taken, After, fed}
 use Rattle.feed.specs.Splits.{Parts, some_part}
 use Rattle.feed.specs.Cutting.{by_test}
 use Rattle.feed.specs.Hosts.{Piece, bytes_of, run, beginning, Host, with_nothing, log, before_end, at_the_end}
@@ -132,3 +132,28 @@ pub enough_calls : (h : Host) → length (log h) ≤ length h.ends → Each HasR
 enough_calls h often rooms =
     let within = left_within false h.pieces [] beginning h.book h.sums in
     calls_take_all h.ends rooms (before_end h).left (omega arith) (before_end h).standing (before_end h).book (before_end h).sums
+
+-- Nor does one that calls at the end until a call isn't full.
+last_takes_all : (ends : List (List ℕ)) (buffer left : List ℕ) (p : Standing) (book : List ℕ) (sums : List ℤ)
+    → let r = run true (map with_nothing ends) left p book sums in (fed true r.standing r.left r.book r.sums buffer).full ≡ false
+    → (run true (map with_nothing (ends ++ buffer ∷ [])) left p book sums).left ≡ []
+unfolding run
+last_takes_all [] buffer left p book sums h =
+    let same = append-nil left in
+    let a = fed true p (left ++ []) book sums buffer in
+    let all = not_full_takes_all (left ++ []) buffer book sums p (rw same h) in
+    let long = length-drop a.taken (left ++ []) in
+    nothing_of (drop a.taken (left ++ [])) (omega arith)
+last_takes_all (x ∷ ends) buffer left p book sums h =
+    let a = fed true p (left ++ []) book sums x in
+    last_takes_all ends buffer (drop a.taken (left ++ [])) a.standing a.book a.sums h
+
+-- The call that a host would make next, at the end, with such a buffer.
+abbrev pub next_call : Host → List ℕ → After
+next_call h buffer = fed true (at_the_end h).standing (at_the_end h).left (at_the_end h).book (at_the_end h).sums buffer
+
+abbrev pub with_call : Host → List ℕ → Host
+with_call h buffer = record { book = h.book; sums = h.sums; pieces = h.pieces; ends = h.ends ++ buffer ∷ [] }
+
+pub until_not_full : (h : Host) (buffer : List ℕ) → (next_call h buffer).full ≡ false → (at_the_end (with_call h buffer)).left ≡ []
+until_not_full h buffer = last_takes_all h.ends buffer (before_end h).left (before_end h).standing (before_end h).book (before_end h).sums

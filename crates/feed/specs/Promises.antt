@@ -1,6 +1,6 @@
 -- What is promised of the bytes. A host gives a log to `feed` in any pieces; what its calls write, and the ledger that its tables then hold, are those of document 01's rules, run over
 -- the records that the log's lines are. Hosts and LogBytes have the words in which this is said, the rules have all else; each promise cites where it is proved.
-use Rattle.std.specs.Prelude.{ℕ, ◌+◌, ◌≤◌, true, false, List, [], ◌∷◌, ◌++◌, map, ◌≡◌, refl, length}
+use Rattle.std.specs.Prelude.{ℕ, ◌+◌, ◌≤◌, true, false, List, [], ◌∷◌, ◌++◌, ◌≡◌, refl, length}
 use Rattle.std.proofs.Math.Option.{Option, none, some, some-injective, some-ne-none}
 use Rattle.std.proofs.Common.{sym, ap, ap₂, ◌∙◌, subst, arith, length-append}
 use Rattle.std.proofs.lemmas.List.{length-map}
@@ -8,7 +8,7 @@ use Rattle.rules.specs.Sizes.{most_waiting}
 use Rattle.rules.specs.Partitions.{Ballot}
 use Rattle.rules.specs.Ledger.{State, sizes_fit, opening}
 use Rattle.rules.specs.Closing.{Finish}
-use Rattle.rules.specs.Events.{Event, Answer, Step}
+use Rattle.rules.specs.Events.{Event}
 use Rattle.rules.specs.Refusals.{step}
 use Rattle.rules.specs.Soundness.{sound}
 use Rattle.rules.specs.Logs.{steps, last, finishes}
@@ -24,18 +24,22 @@ use Rattle.claims.specs.Timing.{moves, has_vote, Timed, own_answers, Alike}
 use Rattle.claims.specs.Demand3.{demand_3}
 use Rattle.claims.specs.Counts.{own_counts}
 use Rattle.claims.specs.FullList.{WaitsForVotes, full_list_waits_for_votes}
-use Rattle.feed.specs.Hosts.{Host, log, at_the_end, out, ledger_of, Whole}
+use Rattle.feed.specs.Hosts.{Host, log, out, ledger_of, Whole}
 use Rattle.feed.specs.AnyCutting.{any_cutting}
-use Rattle.feed.specs.Progress.{HasRoom, enough_calls}
+use Rattle.feed.specs.Progress.{HasRoom, enough_calls, next_call, with_call, until_not_full}
 use Rattle.feed.specs.LogBytes.{lines, records, Sizes, Opened, opened_by, events_in, start, events_of, text_before, text_behind, letter_w, letter_a, letter_c, letter_b, lines_of, finish_lines, own_lines, delivery_lines, told_lines}
 use Rattle.feed.specs.LogEvents.{given, log_gives, Opening, opened_exactly, opening_refused, event_text}
 use Rattle.feed.specs.ShortTables.{Untouched, short_untouched}
 use Rattle.feed.specs.OutLines.{text_of, its_finish_lines, its_delivery_lines, own_line_each, unopened_line_each}
 use Rattle.feed.specs.LineCounts.{w_lines, a_lines, c_lines, b_lines}
 
--- With room for the longest answer at each call, and as many calls at the end as the log has bytes, nothing is left: "gets an answer and never a stop".
-pub taken_whole : (h : Host) → book_words ≤ length h.book → sums_words ≤ length h.sums → length (log h) ≤ length h.ends → Each HasRoom h.ends → Whole h
-taken_whole h book sums often rooms = record { book = book; sums = sums; all_taken = enough_calls h often rooms }
+-- A log is taken whole where the host calls at the end until a call says that it isn't full; and there is such a call where each has room for the longest answer: as many as the log has bytes
+-- are enough, "and never a stop".
+pub whole_when_not_full : (h : Host) (buffer : List ℕ) → book_words ≤ length h.book → sums_words ≤ length h.sums → (next_call h buffer).full ≡ false → Whole (with_call h buffer)
+whole_when_not_full h buffer book sums not_full = record { book = book; sums = sums; all_taken = until_not_full h buffer not_full }
+
+pub whole_in_time : (h : Host) → book_words ≤ length h.book → sums_words ≤ length h.sums → length (log h) ≤ length h.ends → Each HasRoom h.ends → Whole h
+whole_in_time h book sums often rooms = record { book = book; sums = sums; all_taken = enough_calls h often rooms }
 
 -- What the lines of the bytes out count, by their first letters: W and A answer accepted deliveries, C and B tell finishes.
 pub record Counted (bytes : List ℕ) (s : State) : Type 0 where
@@ -44,6 +48,13 @@ pub record Counted (bytes : List ℕ) (s : State) : Type 0 where
   pub finished : lines_of letter_c bytes + lines_of letter_b bytes + length s.waiting ≡ lines_of letter_w bytes
   pub nothing_lost : lines_of letter_w bytes + lines_of letter_a bytes
       ≡ lines_of letter_c bytes + (lines_of letter_a bytes + lines_of letter_b bytes) + length s.waiting
+
+-- The text of one event behind an opening is that of its step, in the state behind the events before it: so `text_behind` and `steps` are one event after the other.
+pub text_of_an_event : (o : Opened) (rs more : List Record) (e : Event) → o.behind ≡ rs ++ event e ∷ more
+    → let now = last (events_in rs) (start o) in
+    text_behind o.behind (steps (events_of o) (start o))
+    ≡ text_behind rs (steps (events_in rs) (start o)) ++ (step_text e (step e now) ++ text_behind more (steps (events_in more) (step e now).next))
+text_of_an_event o rs more e stands = ap (λ (all : List Record). text_behind all (steps (events_in all) (start o))) stands ∙ event_text rs more e (start o)
 
 -- A log opens an engine or opens none.
 found_or {ℓ} : {A : Type 0} {C : Type ℓ} (x : Option A) → (x ≡ none → C) → ((a : A) → x ≡ some a → C) → C
@@ -66,7 +77,7 @@ module _ (h : Host) (whole : Whole h) where
     pub ledger_unopened : ledger_of h ≡ none
     ledger_unopened = ledger_at_the_end ∙ ap (λ (t : Told). t.ledger) (log_gives (log h) ∙ ap (given (records (log h))) unopened)
 
-  -- A log that opens an engine: behind the opening the rules' steps of its events one after the other, each in the state behind the events before it.
+  -- A log that opens an engine: refusals before the opening, its own line, and behind it the rules' steps of the events one after the other; and the state after the last.
   module _ (o : Opened) (is : opened_by (records (log h)) ≡ some o) where
     pub bytes_by_events : out h
         ≡ text_before o.before ++ (opened_text o.sizes.partitions o.sizes.own o.sizes.k ++ text_behind o.behind (steps (events_of o) (start o)))
@@ -74,14 +85,6 @@ module _ (h : Host) (whole : Whole h) where
 
     pub ledger_by_events : ledger_of h ≡ some (last (events_of o) (start o))
     ledger_by_events = ledger_at_the_end ∙ ap (λ (t : Told). t.ledger) (log_gives (log h) ∙ ap (given (records (log h))) is)
-
-    -- The text of one event: that of its step, in the state behind the events before it.
-    pub bytes_of_an_event : (rs more : List Record) (e : Event) → o.behind ≡ rs ++ event e ∷ more
-        → let now = last (events_in rs) (start o) in
-        text_behind o.behind (steps (events_of o) (start o))
-        ≡ text_behind rs (steps (events_in rs) (start o)) ++ (step_text e (step e now) ++ text_behind more (steps (events_in more) (step e now).next))
-    bytes_of_an_event rs more e stands =
-        ap (λ (all : List Record). text_behind all (steps (events_in all) (start o))) stands ∙ event_text rs more e (start o)
 
     -- "After its event, one line a finish"
     pub finishes_by_events : finish_lines (out h) ≡ lines (finishes_text (finishes (events_of o) (start o)))
@@ -184,7 +187,7 @@ demand_3_of_bytes g h g_whole h_whole o q g_opens h_opens same =
 pub short_tables : (h : Host) → short h.book h.sums ≡ true → Untouched h
 short_tables = short_untouched
 
--- "13 [..] program: event before opening, or a second opening": whatever is said elsewhere, a record out of its turn is told so and changes nothing.
+-- "13 [..] program: event before opening, or a second opening": a record out of its turn gets its number and changes nothing.
 abbrev pub only : ℕ → Option State → Told
 only n l = record { text = refusal_text n; ledger = l }
 

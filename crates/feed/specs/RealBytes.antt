@@ -1,8 +1,8 @@
 -- The words of the promises compute, and demand 3 of bytes isn't empty: 01's whole run as bytes opens an engine and has the events of the run, and so has a log of other bytes, with the
 -- vote early, a line that can't be read, an event before the opening and a second opening, and no reads.
 use Rattle.std.specs.Prelude.{ℕ, List, [], ◌∷◌, map, ◌≡◌, refl, pos, negsuc}
-use Rattle.std.proofs.Math.Option.{some, bind}
-use Rattle.rules.specs.Partitions.{Ballot, aye}
+use Rattle.std.proofs.Math.Option.{Option, some, bind}
+use Rattle.rules.specs.Partitions.{aye}
 use Rattle.rules.specs.Ledger.{sizes_fit}
 use Rattle.rules.specs.Events.{vote, read, newest}
 use Rattle.rules.specs.Bytes.{split, is_digit, digits_value, well_led, number, signed}
@@ -13,8 +13,9 @@ use Rattle.rules.specs.WholeRun.{whole_run}
 use Rattle.rules.specs.WholeRunText.{the_log}
 use Rattle.claims.specs.Timing.{moves, is_vote, has_vote}
 use Rattle.claims.specs.RealLogs.{early_vote, whole_run_timed, early_vote_timed}
+use Rattle.feed.specs.Hosts.{Host, log, Whole}
 use Rattle.feed.specs.LogBytes.{records, Sizes, Opened, opened_by, events_in}
-use Rattle.feed.specs.Promises.{SameMovesAndVotes}
+use Rattle.feed.specs.Promises.{SameMovesAndVotes, AlikeBytes, demand_3_of_bytes}
 
 abbrev two_own_0 : Sizes
 two_own_0 = record { partitions = 2; own = 0; k = 1 }
@@ -22,13 +23,18 @@ two_own_0 = record { partitions = 2; own = 0; k = 1 }
 abbrev run_opened : Opened
 run_opened = record { before = []; sizes = two_own_0; behind = map event whole_run }
 
-pub whole_run_opens : opened_by (records the_log) ≡ some run_opened
+-- What opens a log, by computing. The line opens all that this takes, so that each claim opens this one name.
+unfoldable computed : List ℕ → Option Opened
 unfolding
-    whole_run sizes_fit the_log
+    sizes_fit
     split is_digit digits_value well_led number signed
     bind each_part list_of write_parts a_write a_ballot a_snapshot
     opening_fields delivery_fields vote_fields change_fields read_fields by_letter by_fields record_of
     whole_lines opened_by
+computed bytes = opened_by (records bytes)
+
+pub whole_run_opens : opened_by (records the_log) ≡ some run_opened
+unfolding computed the_log whole_run
 whole_run_opens = refl
 
 -- `|` stands for the tab, and the last line lacks its newline.
@@ -67,15 +73,14 @@ another_opened =
     }
 
 pub another_opens : opened_by (records another_log) ≡ some another_opened
-unfolding
-    sizes_fit another_log
-    split is_digit digits_value well_led number signed
-    bind each_part list_of write_parts a_write a_ballot a_snapshot
-    opening_fields delivery_fields vote_fields change_fields read_fields by_letter by_fields record_of
-    whole_lines opened_by
+unfolding computed another_log
 another_opens = refl
 
--- So demand 3 holds of the two, whoever gives them to `feed`.
+-- So demand 3 holds of the two, whoever gives them to `feed`, and in whatever pieces.
 pub same_moves_and_votes : SameMovesAndVotes run_opened another_opened
 unfolding events_in moves has_vote is_vote whole_run early_vote
 same_moves_and_votes = record { sizes = refl; moved = refl; voted = λ i p b. refl; timed = whole_run_timed; also_timed = early_vote_timed }
+
+pub real_bytes_alike : (g h : Host) → Whole g → Whole h → log g ≡ the_log → log h ≡ another_log → AlikeBytes g h run_opened another_opened
+real_bytes_alike g h g_whole h_whole one other =
+    demand_3_of_bytes g h g_whole h_whole run_opened another_opened (rw one whole_run_opens) (rw other another_opens) same_moves_and_votes

@@ -1,7 +1,7 @@
 -- Tables that are too short: no engine is opened in them, every line is refused by 13 or 14, and they stay as they were.
-use Rattle.std.specs.Prelude.{ℕ, ◌-◌, ◌+◌, Bool, true, false, ◌||◌, List, [], ◌∷◌, ◌++◌, map, ◌≡◌, refl, ltb, ℤ, length, take, drop}
+use Rattle.std.specs.Prelude.{ℕ, ◌-◌, Bool, true, false, ◌||◌, List, [], ◌∷◌, ◌++◌, map, ◌≡◌, refl, ltb, ℤ, length, drop}
 use Rattle.std.proofs.Math.Option.{none}
-use Rattle.std.proofs.Common.{sym, ap, ◌∙◌, append-nil, append_assoc, take_at}
+use Rattle.std.proofs.Common.{sym, ap, ◌∙◌, append-nil, append_assoc}
 use Rattle.rules.specs.Bytes.{split, newline}
 use Rattle.rules.specs.Records.{line_limit, Record, opens, event, unreadable}
 use Rattle.rules.specs.AnswerText.{refusal_text}
@@ -9,7 +9,7 @@ use Rattle.refusing.specs.Operands.{short, opening_number}
 use Rattle.engine.specs.Operations.{opened}
 use Rattle.engine.specs.Calls.{Memory, opened_in}
 use Rattle.feed.specs.declared.Standing.{Standing}
-use Rattle.feed.specs.Feeding.{Recorded, line_record, recorded, whole_given, Taken, has_room, is_left, tail_taken, lines_taken, lent_memory, fed}
+use Rattle.feed.specs.Feeding.{line_record, recorded, whole_given, Taken, has_room, is_left, tail_taken, lines_taken, lent_memory}
 use Rattle.feed.specs.Cutting.{by_test}
 use Rattle.feed.specs.Hosts.{Piece, Run, run, beginning, Host, with_nothing, before_end, at_the_end, out, ledger_of}
 use Rattle.feed.specs.AnyCutting.{written}
