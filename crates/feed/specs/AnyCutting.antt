@@ -1,5 +1,5 @@
 -- A log may come in any pieces: what all calls write together, and the ledger that the tables hold after the last, are what the rules' program gives of the log in one piece.
-use Rattle.std.specs.Prelude.{ℕ, ◌+◌, Bool, true, false, List, [], ◌∷◌, ◌++◌, map, ◌≡◌, refl, ℤ, length, take, drop}
+use Rattle.std.specs.Prelude.{ℕ, ◌+◌, Bool, true, false, List, [], ◌∷◌, ◌++◌, ◌≡◌, refl, ℤ, length, take, drop}
 use Rattle.std.proofs.Math.Option.{Option, none}
 use Rattle.std.proofs.Common.{sym, ap, ◌∙◌, arith, append_assoc, append-nil, take_at}
 use Rattle.rules.specs.Ledger.{State}
@@ -11,17 +11,17 @@ use Rattle.feed.specs.declared.Standing.{Standing}
 use Rattle.feed.specs.Feeding.{lent_memory, feeding}
 use Rattle.feed.specs.Meaning.{ledger, Fit}
 use Rattle.feed.specs.Cutting.{rest, rest_of, chunk_continues}
-use Rattle.feed.specs.Hosts.{Piece, bytes_of, Run, run, beginning, Host, with_nothing, log, before_end, at_the_end, out, ledger_of, Whole}
+use Rattle.feed.specs.Callers.{Piece, bytes_of, Ending, Run, run, beginning, Caller, log, at_the_end, out, ledger_of, Whole}
 
 -- A call holds a finish list by itself, so of the memory that it leaves only the tables stay.
-abbrev tables_of : Memory → Memory
+abbrev pub tables_of : Memory → Memory
 tables_of m = lent_memory m.book m.sums
 
-same_ledger : (is_open : Bool) (m : Memory) → ledger is_open m ≡ ledger is_open (tables_of m)
+pub same_ledger : (is_open : Bool) (m : Memory) → ledger is_open m ≡ ledger is_open (tables_of m)
 same_ledger true m = refl
 same_ledger false m = refl
 
-same_rest : (p : Standing) (m : Memory) (bytes : List ℕ) → rest_of p m bytes ≡ rest_of p (tables_of m) bytes
+pub same_rest : (p : Standing) (m : Memory) (bytes : List ℕ) → rest_of p m bytes ≡ rest_of p (tables_of m) bytes
 same_rest p m bytes = ap (rest p.skipping bytes) (same_ledger p.opened m)
 
 fits_again : (is_open : Bool) (m : Memory) → Fit is_open m → Fit is_open (tables_of m)
@@ -32,35 +32,27 @@ pub written : (buffer text : List ℕ) → take (length text) (put buffer 0 text
 unfolding put
 written buffer text = take_at text (drop (0 + length text) buffer) (length text) refl
 
-record RunContinues (p : Standing) (m : Memory) (bytes future : List ℕ) (r : Run) : Type 0 where
-  text : (rest_of p m bytes).text ≡ r.text ++ (rest_of r.standing (lent_memory r.book r.sums) (r.left ++ future)).text
-  ledger : (rest_of p m bytes).ledger ≡ (rest_of r.standing (lent_memory r.book r.sums) (r.left ++ future)).ledger
-  fit : Fit r.standing.opened (lent_memory r.book r.sums)
+-- What a log gives from here on is the text that the calls wrote, and what it gives for the bytes that they left.
+record RunContinues (p : Standing) (m : Memory) (bytes : List ℕ) (r : Run) : Type 0 where
+  text : (rest_of p m bytes).text ≡ r.text ++ (rest_of r.standing (lent_memory r.book r.sums) r.left).text
+  ledger : (rest_of p m bytes).ledger ≡ (rest_of r.standing (lent_memory r.book r.sums) r.left).ledger
 
--- Where nothing comes any more, nothing comes behind its first part.
-later : (bytes more future : List ℕ) → (bytes ++ more) ++ future ≡ [] → more ++ future ≡ []
-later [] more future h = h
-later (b ∷ bytes) more future h = absurd (let e : ◌≡◌ {A = ℕ} 1 0 = cc (h) in omega arith)
-
-run_continues : (at_end : Bool) (pieces : List Piece) (left future : List ℕ) → (at_end ≡ true → bytes_of pieces ++ future ≡ []) → (p : Standing) (book : List ℕ) (sums : List ℤ)
-    → Fit p.opened (lent_memory book sums) → RunContinues p (lent_memory book sums) (left ++ (bytes_of pieces ++ future)) future (run at_end pieces left p book sums)
+run_continues : (pieces : List Piece) (left : List ℕ) → Ending pieces → (p : Standing) (book : List ℕ) (sums : List ℤ)
+    → Fit p.opened (lent_memory book sums) → RunContinues p (lent_memory book sums) (left ++ bytes_of pieces) (run pieces left p book sums)
 unfolding run
-run_continues at_end [] left future ends p book sums fit = record { text = refl; ledger = refl; fit = fit }
-run_continues at_end (x ∷ xs) left future ends p book sums fit =
+run_continues [] left ends p book sums fit = rw (append-nil left) (record { text = refl; ledger = refl })
+run_continues (x ∷ xs) left ends p book sums fit =
     let m = lent_memory book sums in
-    let r = feeding at_end (length x.buffer) (left ++ x.bytes) p m in
-    let behind = bytes_of xs ++ future in
-    let none_later : at_end ≡ true → behind ≡ [] = λ e. later x.bytes (bytes_of xs) future (ends e) in
-    let one = chunk_continues at_end (length x.buffer) (left ++ x.bytes) behind none_later p m fit in
-    let more = run_continues at_end xs (drop r.bytes (left ++ x.bytes)) future none_later r.standing r.memory.book r.memory.sums (fits_again r.standing.opened r.memory one.fit) in
-    let again = same_rest r.standing r.memory (drop r.bytes (left ++ x.bytes) ++ behind) in
-    let whole : left ++ ((x.bytes ++ bytes_of xs) ++ future) ≡ (left ++ x.bytes) ++ behind
-    = ap (λ (l : List ℕ). left ++ l) (append_assoc x.bytes (bytes_of xs) future) ∙ sym (append_assoc left x.bytes behind) in
+    let input = left ++ x.bytes in
+    let r = feeding x.at_end (length x.buffer) input p m in
+    let one = chunk_continues x.at_end (length x.buffer) input (bytes_of xs) ends.0 p m fit in
+    let more = run_continues xs (drop r.bytes input) ends.1 r.standing r.memory.book r.memory.sums (fits_again r.standing.opened r.memory one.fit) in
+    let again = same_rest r.standing r.memory (drop r.bytes input ++ bytes_of xs) in
+    let whole = append_assoc left x.bytes (bytes_of xs) in
     record {
-      text = rw (whole, written x.buffer r.text)
+      text = rw (← whole, written x.buffer r.text)
           (one.text ∙ ap (λ (t : Told). r.text ++ t.text) again ∙ ap (λ (l : List ℕ). r.text ++ l) more.text ∙ sym (append_assoc r.text _ _));
-      ledger = rw whole (one.ledger ∙ ap (λ (t : Told). t.ledger) again ∙ more.ledger);
-      fit = more.fit;
+      ledger = rw (← whole) (one.ledger ∙ ap (λ (t : Told). t.ledger) again ∙ more.ledger);
     }
 
 -- Nothing is left: nothing more is told.
@@ -69,34 +61,20 @@ unfolding rest split whole_lines take_lines
 nothing_left true l = refl
 nothing_left false l = refl
 
-no_bytes : (ends : List (List ℕ)) → bytes_of (map with_nothing ends) ≡ []
-no_bytes [] = refl
-no_bytes (buffer ∷ ends) = no_bytes ends
-
-module _ (h : Host) (whole : Whole h) where
-  starts : rest false (log h) none ≡ run_text (log h)
+module _ (c : Caller) (whole : Whole c) where
+  starts : rest false (log c) none ≡ run_text (log c)
   unfolding rest run_text
   starts = refl
 
-  fit : Fit false (lent_memory h.book h.sums)
+  fit : Fit false (lent_memory c.book c.sums)
   fit = record { long = record { book = whole.book; sums = whole.sums; room = omega arith }; sound = λ o. let e = o in cc }
 
-  one : RunContinues beginning (lent_memory h.book h.sums) ([] ++ (log h ++ [])) [] (before_end h)
-  one = run_continues false h.pieces [] [] (λ o. let e = o in cc) beginning h.book h.sums fit
+  continues : RunContinues beginning (lent_memory c.book c.sums) (log c) (at_the_end c)
+  continues = run_continues c.pieces [] whole.ends beginning c.book c.sums fit
 
-  two : RunContinues (before_end h).standing (lent_memory (before_end h).book (before_end h).sums) ((before_end h).left ++ (bytes_of (map with_nothing h.ends) ++ [])) [] (at_the_end h)
-  two =
-      run_continues true (map with_nothing h.ends) (before_end h).left [] (λ o. ap (λ (l : List ℕ). l ++ []) (no_bytes h.ends)) (before_end h).standing (before_end h).book (before_end h).sums
-      one.fit
-
-  pub any_cutting : (out h ≡ (run_text (log h)).text) × (ledger_of h ≡ (run_text (log h)).ledger)
+  pub any_cutting : (out c ≡ (run_text (log c)).text) × (ledger_of c ≡ (run_text (log c)).ledger)
   any_cutting =
-      let gone = nothing_left (at_the_end h).standing.skipping (ledger_of h) in
-      let all = append-nil (log h) in
-      let last : (rest_of (before_end h).standing (lent_memory (before_end h).book (before_end h).sums) ((before_end h).left ++ [])).text ≡ (at_the_end h).text
-      = rw (no_bytes h.ends, whole.all_taken, gone, append-nil (at_the_end h).text) at two.text in
-      let last_ledger : (rest_of (before_end h).standing (lent_memory (before_end h).book (before_end h).sums) ((before_end h).left ++ [])).ledger ≡ ledger_of h
-      = rw (no_bytes h.ends, whole.all_taken, gone) at two.ledger in (
-        sym (ap (λ (t : Told). t.text) (sym starts) ∙ (rw all at one.text) ∙ ap (λ (l : List ℕ). (before_end h).text ++ l) last),
-        sym (ap (λ (t : Told). t.ledger) (sym starts) ∙ (rw all at one.ledger) ∙ last_ledger),
-      )
+      let gone = nothing_left (at_the_end c).standing.skipping (ledger_of c) in
+      let text : (rest false (log c) none).text ≡ out c = rw (whole.all_taken, gone, append-nil (out c)) at continues.text in
+      let last : (rest false (log c) none).ledger ≡ ledger_of c = rw (whole.all_taken, gone) at continues.ledger in
+      (sym text ∙ ap (λ (t : Told). t.text) starts, sym last ∙ ap (λ (t : Told). t.ledger) starts)

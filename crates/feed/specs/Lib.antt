@@ -2,7 +2,7 @@ pub mod Splits
 pub mod Feeding
 pub mod Meaning
 pub mod Cutting
-pub mod Hosts
+pub mod Callers
 pub mod AnyCutting
 pub mod Answering
 pub mod Taking

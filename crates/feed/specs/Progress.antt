@@ -1,6 +1,6 @@
 -- A call gets on: one that isn't full takes all at the end of a log, and a full one with room for the longest answer takes a byte at least. So enough calls take the whole log.
 use Rattle.std.specs.Prelude.{ℕ, suc, ◌+◌, ◌≤◌, ◌<◌, Bool, true, false, not, ◌||◌, List, [], ◌∷◌, ◌++◌, map, ◌≡◌, refl, eqb, ltb, ℤ, length, drop}
-use Rattle.std.proofs.Common.{ap, ◌∙◌, arith, append-nil, length-append, length-drop, le-leb, eqb-true, true≢false}
+use Rattle.std.proofs.Common.{sym, ap, ◌∙◌, arith, append_assoc, append-nil, length-append, length-drop, le-leb, eqb-true, true≢false}
 use Rattle.std.proofs.lemmas.Bool.{false≢true}
 use Rattle.rules.specs.Bytes.{split, onto_first, newline}
 use Rattle.rules.specs.Records.{line_limit}
@@ -12,7 +12,7 @@ use Rattle.feed.specs.declared.Standing.{Standing}
 use Rattle.feed.specs.Feeding.{Taken, has_room, is_left, tail_taken, lines_taken, After, fed}
 use Rattle.feed.specs.Splits.{Parts, some_part}
 use Rattle.feed.specs.Cutting.{by_test}
-use Rattle.feed.specs.Hosts.{Piece, bytes_of, run, beginning, Host, with_nothing, log, before_end, at_the_end}
+use Rattle.feed.specs.Callers.{Piece, bytes_of, Ending, Run, run, beginning, Caller, log, at_the_end}
 
 -- With room a call is full only behind a line that it took.
 abbrev GoesOn : Taken → Type 0
@@ -83,9 +83,10 @@ lines_whole (line ∷ next ∷ ls) room p m =
     by_test (TakesAll (length line + 1 + total (next ∷ ls))) (p.skipping || has_room room)
     (λ q h. let more = lines_whole (next ∷ ls) _ _ _ h in omega arith) (λ q h. absurd (true≢false h))
 
-pub not_full_takes_all : (input buffer book : List ℕ) (sums : List ℤ) (p : Standing) → (fed true p input book sums buffer).full ≡ false
-    → (fed true p input book sums buffer).taken ≡ length input
-not_full_takes_all input buffer book sums p h = lines_whole (split newline input) (length buffer) p _ h ∙ total_split input
+pub not_full_takes_all : (at_end : Bool) (input buffer book : List ℕ) (sums : List ℤ) (p : Standing) → at_end ≡ true → (fed at_end p input book sums buffer).full ≡ false
+    → (fed at_end p input book sums buffer).taken ≡ length input
+not_full_takes_all true input buffer book sums p e h = lines_whole (split newline input) (length buffer) p _ h ∙ total_split input
+not_full_takes_all false input buffer book sums p e h = absurd (false≢true e)
 
 pub full_takes_some : (at_end : Bool) (input buffer book : List ℕ) (sums : List ℤ) (p : Standing) → LONGEST ≤ length buffer
     → (fed at_end p input book sums buffer).full ≡ true → 0 < (fed at_end p input book sums buffer).taken
@@ -100,60 +101,89 @@ nothing_of (b ∷ bs) h = absurd (omega arith)
 abbrev pub HasRoom : List ℕ → Type 0
 HasRoom buffer = LONGEST ≤ length buffer
 
-calls_take_all : (ends : List (List ℕ)) → Each HasRoom ends → (left : List ℕ) → length left ≤ length ends → (p : Standing) (book : List ℕ) (sums : List ℤ)
-    → (run true (map with_nothing ends) left p book sums).left ≡ []
+-- A call with no new bytes, that says that the log ends.
+abbrev pub ending : List ℕ → Piece
+ending buffer = record { bytes = []; at_end = true; buffer = buffer }
+
+endings_take_all : (buffers : List (List ℕ)) → Each HasRoom buffers → (left : List ℕ) → length left ≤ length buffers → (p : Standing) (book : List ℕ) (sums : List ℤ)
+    → (run (map ending buffers) left p book sums).left ≡ []
 unfolding run
-calls_take_all [] rooms left few p book sums = nothing_of left (omega arith)
-calls_take_all (buffer ∷ ends) rooms left few p book sums =
+endings_take_all [] rooms left few p book sums = nothing_of left (omega arith)
+endings_take_all (buffer ∷ buffers) rooms left few p book sums =
     let a = fed true p (left ++ []) book sums buffer in
     let long = length-drop a.taken (left ++ []) in
     let same = ap length (append-nil left) in
-    calls_take_all ends rooms.1 (drop a.taken (left ++ []))
+    endings_take_all buffers rooms.1 (drop a.taken (left ++ []))
     (tests.split a.full
     (λ q. let some = full_takes_some true (left ++ []) buffer book sums p rooms.0 q in omega arith)
-    (λ q. let all = not_full_takes_all (left ++ []) buffer book sums p q in omega arith))
+    (λ q. let all = not_full_takes_all true (left ++ []) buffer book sums p refl q in omega arith))
     a.standing a.book a.sums
 
--- What is left before the end is no longer than what was given.
-left_within : (at_end : Bool) (pieces : List Piece) (left : List ℕ) (p : Standing) (book : List ℕ) (sums : List ℤ)
-    → length (run at_end pieces left p book sums).left ≤ length left + length (bytes_of pieces)
+-- More calls behind others go on with what these left.
+left_by : Run → List Piece → List ℕ
+left_by r pieces = (run pieces r.left r.standing r.book r.sums).left
+
+more_calls : (pieces more : List Piece) (left : List ℕ) (p : Standing) (book : List ℕ) (sums : List ℤ)
+    → (run (pieces ++ more) left p book sums).left ≡ left_by (run pieces left p book sums) more
+unfolding run left_by
+more_calls [] more left p book sums = refl
+more_calls (x ∷ xs) more left p book sums =
+    let a = fed x.at_end p (left ++ x.bytes) book sums x.buffer in
+    more_calls xs more (drop a.taken (left ++ x.bytes)) a.standing a.book a.sums
+
+-- What is left is no longer than what was given.
+left_within : (pieces : List Piece) (left : List ℕ) (p : Standing) (book : List ℕ) (sums : List ℤ)
+    → length (run pieces left p book sums).left ≤ length left + length (bytes_of pieces)
 unfolding run
-left_within at_end [] left p book sums = omega arith
-left_within at_end (x ∷ xs) left p book sums =
-    let a = fed at_end p (left ++ x.bytes) book sums x.buffer in
+left_within [] left p book sums = omega arith
+left_within (x ∷ xs) left p book sums =
+    let a = fed x.at_end p (left ++ x.bytes) book sums x.buffer in
     let long = length-drop a.taken (left ++ x.bytes) in
     let both = length-append left x.bytes in
     let all = length-append x.bytes (bytes_of xs) in
-    let more = left_within at_end xs (drop a.taken (left ++ x.bytes)) a.standing a.book a.sums in
+    let more = left_within xs (drop a.taken (left ++ x.bytes)) a.standing a.book a.sums in
     omega arith
 
--- A host that calls as often at the end as the log has bytes, with such room each time, leaves nothing.
-pub enough_calls : (h : Host) → length (log h) ≤ length h.ends → Each HasRoom h.ends → (at_the_end h).left ≡ []
-enough_calls h often rooms =
-    let within = left_within false h.pieces [] beginning h.book h.sums in
-    calls_take_all h.ends rooms (before_end h).left (omega arith) (before_end h).standing (before_end h).book (before_end h).sums
+-- A caller with more calls behind its own.
+abbrev pub and_then : Caller → List Piece → Caller
+and_then c more = record { book = c.book; sums = c.sums; pieces = c.pieces ++ more }
 
--- Nor does one that calls at the end until a call isn't full.
-last_takes_all : (ends : List (List ℕ)) (buffer left : List ℕ) (p : Standing) (book : List ℕ) (sums : List ℤ)
-    → let r = run true (map with_nothing ends) left p book sums in (fed true r.standing r.left r.book r.sums buffer).full ≡ false
-    → (run true (map with_nothing (ends ++ buffer ∷ [])) left p book sums).left ≡ []
-unfolding run
-last_takes_all [] buffer left p book sums h =
-    let same = append-nil left in
-    let a = fed true p (left ++ []) book sums buffer in
-    let all = not_full_takes_all (left ++ []) buffer book sums p (rw same h) in
-    let long = length-drop a.taken (left ++ []) in
-    nothing_of (drop a.taken (left ++ [])) (omega arith)
-last_takes_all (x ∷ ends) buffer left p book sums h =
-    let a = fed true p (left ++ []) book sums x in
-    last_takes_all ends buffer (drop a.taken (left ++ [])) a.standing a.book a.sums h
+-- The next call of a caller.
+abbrev pub next_call : Caller → Piece → After
+next_call c x = fed x.at_end (at_the_end c).standing ((at_the_end c).left ++ x.bytes) (at_the_end c).book (at_the_end c).sums x.buffer
 
--- The call that a host would make next, at the end, with such a buffer.
-abbrev pub next_call : Host → List ℕ → After
-next_call h buffer = fed true (at_the_end h).standing (at_the_end h).left (at_the_end h).book (at_the_end h).sums buffer
+pub enough_calls : (c : Caller) (buffers : List (List ℕ)) → length (log c) ≤ length buffers → Each HasRoom buffers → (at_the_end (and_then c (map ending buffers))).left ≡ []
+unfolding left_by
+enough_calls c buffers often rooms =
+    let within = left_within c.pieces [] beginning c.book c.sums in
+    more_calls c.pieces (map ending buffers) [] beginning c.book c.sums
+    ∙ endings_take_all buffers rooms (at_the_end c).left (omega arith) (at_the_end c).standing (at_the_end c).book (at_the_end c).sums
 
-abbrev pub with_call : Host → List ℕ → Host
-with_call h buffer = record { book = h.book; sums = h.sums; pieces = h.pieces; ends = h.ends ++ buffer ∷ [] }
+pub until_not_full : (c : Caller) (x : Piece) → x.at_end ≡ true → (next_call c x).full ≡ false → (at_the_end (and_then c (x ∷ []))).left ≡ []
+unfolding left_by run
+until_not_full c x ends h =
+    let input = (at_the_end c).left ++ x.bytes in
+    let a = next_call c x in
+    let all = not_full_takes_all x.at_end input x.buffer (at_the_end c).book (at_the_end c).sums (at_the_end c).standing ends h in
+    let long = length-drop a.taken input in
+    more_calls c.pieces (x ∷ []) [] beginning c.book c.sums ∙ nothing_of (drop a.taken input) (omega arith)
 
-pub until_not_full : (h : Host) (buffer : List ℕ) → (next_call h buffer).full ≡ false → (at_the_end (with_call h buffer)).left ≡ []
-until_not_full h buffer = last_takes_all h.ends buffer (before_end h).left (before_end h).standing (before_end h).book (before_end h).sums
+-- Such calls give nothing more of the log.
+bytes_append : (pieces more : List Piece) → bytes_of (pieces ++ more) ≡ bytes_of pieces ++ bytes_of more
+bytes_append [] more = refl
+bytes_append (x ∷ xs) more = ap (λ (l : List ℕ). x.bytes ++ l) (bytes_append xs more) ∙ sym (append_assoc x.bytes (bytes_of xs) (bytes_of more))
+
+no_bytes : (buffers : List (List ℕ)) → bytes_of (map ending buffers) ≡ []
+no_bytes [] = refl
+no_bytes (buffer ∷ buffers) = no_bytes buffers
+
+pub same_log : (c : Caller) (buffers : List (List ℕ)) → log (and_then c (map ending buffers)) ≡ log c
+same_log c buffers = bytes_append c.pieces (map ending buffers) ∙ ap (λ (l : List ℕ). log c ++ l) (no_bytes buffers) ∙ append-nil (log c)
+
+still_ends : (buffers : List (List ℕ)) → Ending (map ending buffers)
+still_ends [] = tt
+still_ends (buffer ∷ buffers) = (λ e. no_bytes buffers, still_ends buffers)
+
+pub ends_behind : (pieces : List Piece) (buffers : List (List ℕ)) → Ending pieces → Ending (pieces ++ map ending buffers)
+ends_behind [] buffers ends = still_ends buffers
+ends_behind (x ∷ xs) buffers ends = (λ e. bytes_append xs (map ending buffers) ∙ rw (ends.0 e, no_bytes buffers), ends_behind xs buffers ends.1)

@@ -1,6 +1,6 @@
--- What is promised of the bytes. A host gives a log to `feed` in any pieces; what its calls write, and the ledger that its tables then hold, are those of document 01's rules, run over
--- the records that the log's lines are. Hosts and LogBytes have the words in which this is said, the rules have all else; each promise cites where it is proved.
-use Rattle.std.specs.Prelude.{ℕ, ◌+◌, ◌≤◌, true, false, List, [], ◌∷◌, ◌++◌, ◌≡◌, refl, length}
+-- What is promised of the bytes. Whoever gives a log to `feed`, in whatever pieces: what the calls write, and the ledger that the tables then hold, are those of document 01's rules, run
+-- over the records that the log's lines are. Callers and LogBytes have the words in which this is said, the rules have all else; each promise cites where it is proved.
+use Rattle.std.specs.Prelude.{ℕ, ◌+◌, ◌≤◌, true, false, List, [], ◌∷◌, ◌++◌, map, ◌≡◌, refl, length}
 use Rattle.std.proofs.Math.Option.{Option, none, some, some-injective, some-ne-none}
 use Rattle.std.proofs.Common.{sym, ap, ap₂, ◌∙◌, subst, arith, length-append}
 use Rattle.std.proofs.lemmas.List.{length-map}
@@ -24,22 +24,27 @@ use Rattle.claims.specs.Timing.{moves, has_vote, Timed, own_answers, Alike}
 use Rattle.claims.specs.Demand3.{demand_3}
 use Rattle.claims.specs.Counts.{own_counts}
 use Rattle.claims.specs.FullList.{WaitsForVotes, full_list_waits_for_votes}
-use Rattle.feed.specs.Hosts.{Host, log, out, ledger_of, Whole}
+use Rattle.feed.specs.Callers.{Piece, Ending, Caller, log, out, ledger_of, Whole}
 use Rattle.feed.specs.AnyCutting.{any_cutting}
-use Rattle.feed.specs.Progress.{HasRoom, enough_calls, next_call, with_call, until_not_full}
+use Rattle.feed.specs.Progress.{HasRoom, ending, and_then, next_call, enough_calls, until_not_full, same_log, ends_behind}
 use Rattle.feed.specs.LogBytes.{lines, records, Sizes, Opened, opened_by, events_in, start, events_of, text_before, text_behind, letter_w, letter_a, letter_c, letter_b, lines_of, finish_lines, own_lines, delivery_lines, told_lines}
 use Rattle.feed.specs.LogEvents.{given, log_gives, Opening, opened_exactly, opening_refused, event_text}
 use Rattle.feed.specs.ShortTables.{Untouched, short_untouched}
 use Rattle.feed.specs.OutLines.{text_of, its_finish_lines, its_delivery_lines, own_line_each, unopened_line_each}
 use Rattle.feed.specs.LineCounts.{w_lines, a_lines, c_lines, b_lines}
 
--- A log is taken whole where the host calls at the end until a call says that it isn't full; and there is such a call where each has room for the longest answer: as many as the log has bytes
--- are enough, "and never a stop".
-pub whole_when_not_full : (h : Host) (buffer : List ℕ) → book_words ≤ length h.book → sums_words ≤ length h.sums → (next_call h buffer).full ≡ false → Whole (with_call h buffer)
-whole_when_not_full h buffer book sums not_full = record { book = book; sums = sums; all_taken = until_not_full h buffer not_full }
+-- A log is taken whole by calls until one that says that the log ends isn't full. There is one, "and never a stop": with room for the longest answer each time, as many calls as the log has
+-- bytes are enough.
+pub whole_when_not_full : (c : Caller) (x : Piece) → book_words ≤ length c.book → sums_words ≤ length c.sums → Ending (c.pieces ++ x ∷ []) → x.at_end ≡ true → (next_call c x).full ≡ false
+    → Whole (and_then c (x ∷ []))
+whole_when_not_full c x book sums ends at_end not_full = record { book = book; sums = sums; ends = ends; all_taken = until_not_full c x at_end not_full }
 
-pub whole_in_time : (h : Host) → book_words ≤ length h.book → sums_words ≤ length h.sums → length (log h) ≤ length h.ends → Each HasRoom h.ends → Whole h
-whole_in_time h book sums often rooms = record { book = book; sums = sums; all_taken = enough_calls h often rooms }
+pub whole_in_time : (c : Caller) (buffers : List (List ℕ)) → book_words ≤ length c.book → sums_words ≤ length c.sums → Ending c.pieces → Each HasRoom buffers
+    → length (log c) ≤ length buffers → Whole (and_then c (map ending buffers)) × (log (and_then c (map ending buffers)) ≡ log c)
+whole_in_time c buffers book sums ends rooms often = (
+  record { book = book; sums = sums; ends = ends_behind c.pieces buffers ends; all_taken = enough_calls c buffers often rooms },
+  same_log c buffers,
+)
 
 -- What the lines of the bytes out count, by their first letters: W and A answer accepted deliveries, C and B tell finishes.
 pub record Counted (bytes : List ℕ) (s : State) : Type 0 where
@@ -61,73 +66,73 @@ found_or {ℓ} : {A : Type 0} {C : Type ℓ} (x : Option A) → (x ≡ none → 
 found_or none k f = k refl
 found_or (some a) k f = f a refl
 
-module _ (h : Host) (whole : Whole h) where
+module _ (c : Caller) (whole : Whole c) where
   -- "Every answer is the one that document 01's reading gives": whatever the pieces and the buffers, and whatever the tables held before.
-  pub bytes_out : out h ≡ (run_text (log h)).text
-  bytes_out = (any_cutting h whole).0
+  pub bytes_out : out c ≡ (run_text (log c)).text
+  bytes_out = (any_cutting c whole).0
 
-  pub ledger_at_the_end : ledger_of h ≡ (run_text (log h)).ledger
-  ledger_at_the_end = (any_cutting h whole).1
+  pub ledger_at_the_end : ledger_of c ≡ (run_text (log c)).ledger
+  ledger_at_the_end = (any_cutting c whole).1
 
   -- A log that opens nothing: each line is answered by 13 or 14, and there is no ledger.
-  module _ (unopened : opened_by (records (log h)) ≡ none) where
-    pub bytes_unopened : out h ≡ text_before (records (log h))
-    bytes_unopened = bytes_out ∙ ap (λ (t : Told). t.text) (log_gives (log h) ∙ ap (given (records (log h))) unopened)
+  module _ (unopened : opened_by (records (log c)) ≡ none) where
+    pub bytes_unopened : out c ≡ text_before (records (log c))
+    bytes_unopened = bytes_out ∙ ap (λ (t : Told). t.text) (log_gives (log c) ∙ ap (given (records (log c))) unopened)
 
-    pub ledger_unopened : ledger_of h ≡ none
-    ledger_unopened = ledger_at_the_end ∙ ap (λ (t : Told). t.ledger) (log_gives (log h) ∙ ap (given (records (log h))) unopened)
+    pub ledger_unopened : ledger_of c ≡ none
+    ledger_unopened = ledger_at_the_end ∙ ap (λ (t : Told). t.ledger) (log_gives (log c) ∙ ap (given (records (log c))) unopened)
 
   -- A log that opens an engine: refusals before the opening, its own line, and behind it the rules' steps of the events one after the other; and the state after the last.
-  module _ (o : Opened) (is : opened_by (records (log h)) ≡ some o) where
-    pub bytes_by_events : out h
+  module _ (o : Opened) (is : opened_by (records (log c)) ≡ some o) where
+    pub bytes_by_events : out c
         ≡ text_before o.before ++ (opened_text o.sizes.partitions o.sizes.own o.sizes.k ++ text_behind o.behind (steps (events_of o) (start o)))
-    bytes_by_events = bytes_out ∙ ap (λ (t : Told). t.text) (log_gives (log h) ∙ ap (given (records (log h))) is)
+    bytes_by_events = bytes_out ∙ ap (λ (t : Told). t.text) (log_gives (log c) ∙ ap (given (records (log c))) is)
 
-    pub ledger_by_events : ledger_of h ≡ some (last (events_of o) (start o))
-    ledger_by_events = ledger_at_the_end ∙ ap (λ (t : Told). t.ledger) (log_gives (log h) ∙ ap (given (records (log h))) is)
+    pub ledger_by_events : ledger_of c ≡ some (last (events_of o) (start o))
+    ledger_by_events = ledger_at_the_end ∙ ap (λ (t : Told). t.ledger) (log_gives (log c) ∙ ap (given (records (log c))) is)
 
     -- "After its event, one line a finish"
-    pub finishes_by_events : finish_lines (out h) ≡ lines (finishes_text (finishes (events_of o) (start o)))
+    pub finishes_by_events : finish_lines (out c) ≡ lines (finishes_text (finishes (events_of o) (start o)))
     finishes_by_events = ap finish_lines bytes_by_events ∙ its_finish_lines o
 
     -- "each delivery's own answer"
-    pub deliveries_by_events : delivery_lines o (out h) ≡ told_lines (moves (events_of o)) (own_answers (events_of o) (start o))
+    pub deliveries_by_events : delivery_lines o (out c) ≡ told_lines (moves (events_of o)) (own_answers (events_of o) (start o))
     deliveries_by_events = ap (delivery_lines o) bytes_by_events ∙ its_delivery_lines o
 
   -- "Any log, any record [..] gets an answer": for each line of the log one line that is its own, besides the lines of finishes.
-  pub one_answer_each : length (own_lines (out h)) ≡ length (lines (log h))
+  pub one_answer_each : length (own_lines (out c)) ≡ length (lines (log c))
   one_answer_each =
-      found_or (opened_by (records (log h)))
-      (λ is. ap (λ (t : List ℕ). length (own_lines t)) (bytes_unopened is) ∙ unopened_line_each (records (log h)) ∙ length-map (lines (log h)) record_of)
-      (λ o is. let opens_so = (opened_exactly (records (log h)) o).0 is in
+      found_or (opened_by (records (log c)))
+      (λ is. ap (λ (t : List ℕ). length (own_lines t)) (bytes_unopened is) ∙ unopened_line_each (records (log c)) ∙ length-map (lines (log c)) record_of)
+      (λ o is. let opens_so = (opened_exactly (records (log c)) o).0 is in
       ap (λ (t : List ℕ). length (own_lines t)) (bytes_by_events o is)
       ∙ own_line_each o
       ∙ (let all = length-append o.before (opens o.sizes.partitions o.sizes.own o.sizes.k ∷ o.behind) in
       let e : length o.before + (1 + length o.behind) ≡ length (o.before ++ opens o.sizes.partitions o.sizes.own o.sizes.k ∷ o.behind) = omega arith in e)
       ∙ ap length (sym opens_so.stands)
-      ∙ length-map (lines (log h)) record_of)
+      ∙ length-map (lines (log c)) record_of)
 
   -- Whatever state the tables hold at the end, where an engine is opened.
-  module _ (s : State) (holds : ledger_of h ≡ some s) where
-    of_some_log : (P : List ℕ → State → Type 0) → ((o : Opened) → Opening (records (log h)) o → P (text_of o) (last (events_of o) (start o))) → P (out h) s
+  module _ (s : State) (holds : ledger_of c ≡ some s) where
+    of_some_log : (P : List ℕ → State → Type 0) → ((o : Opened) → Opening (records (log c)) o → P (text_of o) (last (events_of o) (start o))) → P (out c) s
     of_some_log P k =
-        found_or (opened_by (records (log h)))
+        found_or (opened_by (records (log c)))
         (λ is. absurd (some-ne-none s (sym holds ∙ ledger_unopened is)))
         (λ o is. let same = some-injective s (last (events_of o) (start o)) (sym holds ∙ ledger_by_events o is) in
-        rw (bytes_by_events o is, same) (k o ((opened_exactly (records (log h)) o).0 is)))
+        rw (bytes_by_events o is, same) (k o ((opened_exactly (records (log c)) o).0 is)))
 
     -- "accepted deliveries equal commits, aborts and waiting together, the aborts counted from the answers given", and DC, SC and the number of finishes are "the log's own count"
-    pub counts_of_bytes : Counted (out h) s
+    pub counts_of_bytes : Counted (out c) s
     counts_of_bytes =
         of_some_log Counted (λ o opens_so.
         let counts = own_counts (events_of o) o.sizes.partitions o.sizes.own o.sizes.k in
         let dc = counts.dc_counts in
         let sc = counts.sc_counts in
         let all = counts.nothing_lost in
-        let w = w_lines o in
-        let a = a_lines o in
-        let c = c_lines o in
-        let b = b_lines o in
+        let waits = w_lines o in
+        let aborts = a_lines o in
+        let commits = c_lines o in
+        let ended = b_lines o in
         record { dc = omega arith; sc = omega arith; finished = omega arith; nothing_lost = omega arith })
 
     -- "a full list at rest has a head that waits only for votes"
@@ -155,36 +160,36 @@ pub record SameMovesAndVotes (o q : Opened) : Type 0 where
   pub also_timed : Timed (start q) (events_of q)
 
 -- "each delivery's own answer, the order, outcomes and versions of all finishes, and the final state are equal"
-pub record AlikeBytes (g h : Host) (o q : Opened) : Type 0 where
-  pub answers : delivery_lines o (out g) ≡ delivery_lines q (out h)
-  pub finishes : finish_lines (out g) ≡ finish_lines (out h)
-  pub state : ledger_of g ≡ ledger_of h
+pub record AlikeBytes (b c : Caller) (o q : Opened) : Type 0 where
+  pub answers : delivery_lines o (out b) ≡ delivery_lines q (out c)
+  pub finishes : finish_lines (out b) ≡ finish_lines (out c)
+  pub state : ledger_of b ≡ ledger_of c
 
 -- Demand 3, of any pieces and buffers and of tables of any content.
-pub demand_3_of_bytes : (g h : Host) → Whole g → Whole h → (o q : Opened) → opened_by (records (log g)) ≡ some o → opened_by (records (log h)) ≡ some q
-    → SameMovesAndVotes o q → AlikeBytes g h o q
-demand_3_of_bytes g h g_whole h_whole o q g_opens h_opens same =
+pub demand_3_of_bytes : (b c : Caller) → Whole b → Whole c → (o q : Opened) → opened_by (records (log b)) ≡ some o → opened_by (records (log c)) ≡ some q
+    → SameMovesAndVotes o q → AlikeBytes b c o q
+demand_3_of_bytes b c b_whole c_whole o q b_opens c_opens same =
     let begun : start q ≡ start o = ap (λ (z : Sizes). opening z.partitions z.own z.k) (sym same.sizes) in
     let alike : Alike (start o) (events_of o) (events_of q) =
     demand_3 o.sizes.partitions o.sizes.own o.sizes.k (events_of o) (events_of q) same.timed
     (subst (λ (s : State). Timed s (events_of q)) begun same.also_timed) same.moved same.voted in
     record {
-      answers = deliveries_by_events g g_whole o g_opens
+      answers = deliveries_by_events b b_whole o b_opens
           ∙ ap₂ told_lines same.moved alike.answers
           ∙ ap (λ (s : State). told_lines (moves (events_of q)) (own_answers (events_of q) s)) (sym begun)
-          ∙ sym (deliveries_by_events h h_whole q h_opens);
-      finishes = finishes_by_events g g_whole o g_opens
+          ∙ sym (deliveries_by_events c c_whole q c_opens);
+      finishes = finishes_by_events b b_whole o b_opens
           ∙ ap (λ (fs : List Finish). lines (finishes_text fs)) alike.told
           ∙ ap (λ (s : State). lines (finishes_text (finishes (events_of q) s))) (sym begun)
-          ∙ sym (finishes_by_events h h_whole q h_opens);
-      state = ledger_by_events g g_whole o g_opens
+          ∙ sym (finishes_by_events c c_whole q c_opens);
+      state = ledger_by_events b b_whole o b_opens
           ∙ ap some alike.state
           ∙ ap (λ (s : State). some (last (events_of q) s)) (sym begun)
-          ∙ sym (ledger_by_events h h_whole q h_opens);
+          ∙ sym (ledger_by_events c c_whole q c_opens);
     }
 
 -- "either: a lent table too short": every line is refused by 13 or 14, no engine is opened, and the tables stay as they were.
-pub short_tables : (h : Host) → short h.book h.sums ≡ true → Untouched h
+pub short_tables : (c : Caller) → short c.book c.sums ≡ true → Untouched c
 short_tables = short_untouched
 
 -- "13 [..] program: event before opening, or a second opening": a record out of its turn gets its number and changes nothing.

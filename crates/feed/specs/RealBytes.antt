@@ -13,7 +13,7 @@ use Rattle.rules.specs.WholeRun.{whole_run}
 use Rattle.rules.specs.WholeRunText.{the_log}
 use Rattle.claims.specs.Timing.{moves, is_vote, has_vote}
 use Rattle.claims.specs.RealLogs.{early_vote, whole_run_timed, early_vote_timed}
-use Rattle.feed.specs.Hosts.{Host, log, Whole}
+use Rattle.feed.specs.Callers.{Caller, log, Whole}
 use Rattle.feed.specs.LogBytes.{records, Sizes, Opened, opened_by, events_in}
 use Rattle.feed.specs.Promises.{SameMovesAndVotes, AlikeBytes, demand_3_of_bytes}
 
@@ -81,6 +81,6 @@ pub same_moves_and_votes : SameMovesAndVotes run_opened another_opened
 unfolding events_in moves has_vote is_vote whole_run early_vote
 same_moves_and_votes = record { sizes = refl; moved = refl; voted = λ i p b. refl; timed = whole_run_timed; also_timed = early_vote_timed }
 
-pub real_bytes_alike : (g h : Host) → Whole g → Whole h → log g ≡ the_log → log h ≡ another_log → AlikeBytes g h run_opened another_opened
-real_bytes_alike g h g_whole h_whole one other =
-    demand_3_of_bytes g h g_whole h_whole run_opened another_opened (rw one whole_run_opens) (rw other another_opens) same_moves_and_votes
+pub real_bytes_alike : (b c : Caller) → Whole b → Whole c → log b ≡ the_log → log c ≡ another_log → AlikeBytes b c run_opened another_opened
+real_bytes_alike b c b_whole c_whole one other =
+    demand_3_of_bytes b c b_whole c_whole run_opened another_opened (rw one whole_run_opens) (rw other another_opens) same_moves_and_votes

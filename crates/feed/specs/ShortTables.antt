@@ -1,5 +1,5 @@
 -- Tables that are too short: no engine is opened in them, every line is refused by 13 or 14, and they stay as they were.
-use Rattle.std.specs.Prelude.{ℕ, ◌-◌, Bool, true, false, ◌||◌, List, [], ◌∷◌, ◌++◌, map, ◌≡◌, refl, ltb, ℤ, length, drop}
+use Rattle.std.specs.Prelude.{ℕ, ◌-◌, Bool, true, false, ◌||◌, List, [], ◌∷◌, ◌++◌, ◌≡◌, refl, ltb, ℤ, length, drop}
 use Rattle.std.proofs.Math.Option.{none}
 use Rattle.std.proofs.Common.{sym, ap, ◌∙◌, append-nil, append_assoc}
 use Rattle.rules.specs.Bytes.{split, newline}
@@ -11,7 +11,7 @@ use Rattle.engine.specs.Calls.{Memory, opened_in}
 use Rattle.feed.specs.declared.Standing.{Standing}
 use Rattle.feed.specs.Feeding.{line_record, recorded, whole_given, Taken, has_room, is_left, tail_taken, lines_taken, lent_memory}
 use Rattle.feed.specs.Cutting.{by_test}
-use Rattle.feed.specs.Hosts.{Piece, Run, run, beginning, Host, with_nothing, before_end, at_the_end, out, ledger_of}
+use Rattle.feed.specs.Callers.{Piece, Run, run, beginning, Caller, at_the_end, out, ledger_of}
 use Rattle.feed.specs.AnyCutting.{written}
 use Rattle.feed.specs.LogBytes.{text_before}
 use Rattle.feed.specs.LogEvents.{number_before, text_before_one}
@@ -94,36 +94,25 @@ record RunUnmoved (book : List ℕ) (sums : List ℤ) (r : Run) : Type 0 where
   same_sums : r.sums ≡ sums
   text : OnlyRefused r.text
 
-run_unmoved : (book : List ℕ) (sums : List ℤ) → short book sums ≡ true → (at_end : Bool) (pieces : List Piece) (left : List ℕ) (p : Standing) → p.opened ≡ false
-    → RunUnmoved book sums (run at_end pieces left p book sums)
+run_unmoved : (book : List ℕ) (sums : List ℤ) → short book sums ≡ true → (pieces : List Piece) (left : List ℕ) (p : Standing) → p.opened ≡ false
+    → RunUnmoved book sums (run pieces left p book sums)
 unfolding run
-run_unmoved book sums q at_end [] left p h = record { opened = h; same_book = refl; same_sums = refl; text = none_refused }
-run_unmoved book sums q at_end (x ∷ xs) left p h =
-    let r = lines_taken at_end (length x.buffer) (split newline (left ++ x.bytes)) p (lent_memory book sums) in
-    let one = lines_unmoved (lent_memory book sums) q at_end (split newline (left ++ x.bytes)) (length x.buffer) p h in
-    let more = run_unmoved book sums q at_end xs (drop r.bytes (left ++ x.bytes)) r.standing one.opened in
-    let same : RunUnmoved book sums (run at_end xs (drop r.bytes (left ++ x.bytes)) r.standing r.memory.book r.memory.sums) = rw one.memory more in
+run_unmoved book sums q [] left p h = record { opened = h; same_book = refl; same_sums = refl; text = none_refused }
+run_unmoved book sums q (x ∷ xs) left p h =
+    let r = lines_taken x.at_end (length x.buffer) (split newline (left ++ x.bytes)) p (lent_memory book sums) in
+    let one = lines_unmoved (lent_memory book sums) q x.at_end (split newline (left ++ x.bytes)) (length x.buffer) p h in
+    let more = run_unmoved book sums q xs (drop r.bytes (left ++ x.bytes)) r.standing one.opened in
+    let same : RunUnmoved book sums (run xs (drop r.bytes (left ++ x.bytes)) r.standing r.memory.book r.memory.sums) = rw one.memory more in
     record { opened = same.opened; same_book = same.same_book; same_sums = same.same_sums; text = rw (written x.buffer r.text) (both_refused r.text _ one.text same.text) }
 
--- What a host has at the end that lent such tables.
-pub record Untouched (h : Host) : Type 0 where
-  pub no_ledger : ledger_of h ≡ none
-  pub book : (at_the_end h).book ≡ h.book
-  pub sums : (at_the_end h).sums ≡ h.sums
-  pub text : OnlyRefused (out h)
+-- What a caller has at the end that lent such tables.
+pub record Untouched (c : Caller) : Type 0 where
+  pub no_ledger : ledger_of c ≡ none
+  pub book : (at_the_end c).book ≡ c.book
+  pub sums : (at_the_end c).sums ≡ c.sums
+  pub text : OnlyRefused (out c)
 
-module _ (h : Host) (q : short h.book h.sums ≡ true) where
-  first : RunUnmoved h.book h.sums (before_end h)
-  first = run_unmoved h.book h.sums q false h.pieces [] beginning refl
-
-  second : RunUnmoved h.book h.sums (at_the_end h)
-  second = rw (first.same_book, first.same_sums) (run_unmoved h.book h.sums q true (map with_nothing h.ends) (before_end h).left (before_end h).standing first.opened)
-
-  pub short_untouched : Untouched h
-  short_untouched =
-      record {
-        no_ledger = rw second.opened;
-        book = second.same_book;
-        sums = second.same_sums;
-        text = both_refused (before_end h).text (at_the_end h).text first.text second.text;
-      }
+pub short_untouched : (c : Caller) → short c.book c.sums ≡ true → Untouched c
+short_untouched c q =
+    let all = run_unmoved c.book c.sums q c.pieces [] beginning refl in
+    record { no_ledger = rw all.opened; book = all.same_book; sums = all.same_sums; text = all.text }
