@@ -46,18 +46,27 @@ taken_face d =
     record { refusal = 0; dc = d.dc; reason = reason_told d.fate; place = place_told d.fate; send = send_number d.send; finishes = d.finishes }
 
 -- "Every refusal returns its number alone": every other number is 0 then.
+abbrev pub delivery_refused : ℕ → DeliveredFace
+delivery_refused number = record { refusal = number; dc = 0; reason = 0; place = 0; send = 0; finishes = 0 }
+
+abbrev pub settling_refused : ℕ → SettledFace
+settling_refused number = record { refusal = number; finishes = 0 }
+
+abbrev pub read_refused : ℕ → ReadingFace
+read_refused number = record { value = pos 0; version = 0; refusal = number }
+
 abbrev pub delivered_face : Result Delivered Refusal → DeliveredFace
 delivered_face (Ok d) = taken_face d
-delivered_face (Err r) = record { refusal = numbered r; dc = 0; reason = 0; place = 0; send = 0; finishes = 0 }
+delivered_face (Err r) = delivery_refused (numbered r)
 
 -- Of a vote, and of a threshold change.
 abbrev pub settled_face : Result ℕ Refusal → SettledFace
 settled_face (Ok finishes) = record { refusal = 0; finishes = finishes }
-settled_face (Err r) = record { refusal = numbered r; finishes = 0 }
+settled_face (Err r) = settling_refused (numbered r)
 
 abbrev pub reading_face : Reading → ReadingFace
 reading_face (Value v version) = record { value = v; version = version; refusal = 0 }
-reading_face (Refused r) = record { value = pos 0; version = 0; refusal = numbered r }
+reading_face (Refused r) = read_refused (numbered r)
 
 -- How a log stands between two pieces, as C keeps it.
 abbrev pub standing_of : ℕ → ℕ → Standing

@@ -10,14 +10,14 @@ abbrev pub faced : {A B : Type 0} → (A → B) → engine.After A → engine.Af
 faced face r = record { answer = face r.answer; book = r.book; sums = r.sums; finishes = r.finishes }
 
 -- The same of a piece of a log: its tables, and the buffer of answers.
-pub record Fed : Type 0 where
+pub record AfterPiece : Type 0 where
   pub answer : FedFace
   pub book : List ℕ
   pub sums : List ℤ
   pub out : List ℕ
 
-abbrev pub fed_left : FedFace → List ℕ → List ℤ → List ℕ → Fed
+abbrev pub fed_left : FedFace → List ℕ → List ℤ → List ℕ → AfterPiece
 fed_left answer book sums out = record { answer = answer; book = book; sums = sums; out = out }
 
-abbrev pub fed_faced : feed.After → Fed
+abbrev pub fed_faced : feed.After → AfterPiece
 fed_faced r = fed_left (fed_face (record { taken = r.taken; wrote = r.wrote; full = r.full; standing = r.standing })) r.book r.sums r.out
