@@ -2,21 +2,13 @@
 
 #![forbid(unsafe_code)]
 
-mod random;
-mod shape;
-
-mod damage;
-mod maker;
-
-mod compare;
-mod moved;
-mod tally;
-
 #[cfg(test)]
 mod tests;
 
 use std::env;
 use std::process::ExitCode;
+
+use trial::{compare, maker, moved, tally};
 
 use compare::{by_program, by_second, shrink, text, Answering};
 use maker::Maker;
