@@ -1,10 +1,10 @@
 //! A whole call: the numbers that refuse it, or what it does, on a state and in what is lent.
 
 use crate::calls::{Answer, Call, Delivery, Fate, Lent};
-use crate::layout::{decode, encode, BOOK, SUMS};
+use crate::layout::{decode, encode};
 use crate::refusals::Refusals;
 use crate::rules::{is_local, Finish, Rules};
-use crate::sizes::{FINISHES, KEYS};
+use crate::sizes::KEYS;
 use crate::soundness::Soundness;
 use crate::state::{State, Transaction};
 
@@ -16,26 +16,41 @@ pub struct Outcome {
     pub state: State,
 }
 
-pub trait Desk: Soundness + Rules + Refusals {
+/// What decides. A test puts something else in one of the three places.
+pub struct Desk<'a> {
+    pub soundness: &'a dyn Soundness,
+    pub rules: &'a dyn Rules,
+    pub refusals: &'a dyn Refusals,
+}
+
+/// The document as it stands.
+pub struct Letter;
+
+impl Soundness for Letter {}
+impl Rules for Letter {}
+impl Refusals for Letter {}
+
+pub const BY_THE_LETTER: Desk = Desk { soundness: &Letter, rules: &Letter, refusals: &Letter };
+
+impl Desk<'_> {
     /// What the call does on these tables, or the number that refuses it.
-    fn outcome(&self, call: &Call, lent: &Lent) -> Result<Outcome, u32> {
-        let state = decode(&lent.book, &lent.sums).filter(|state| self.is_sound(state));
-        match self.first(&self.lent_lines(call, lent, state.is_some())) {
+    pub fn outcome(&self, call: &Call, lent: &Lent) -> Result<Outcome, u32> {
+        let state = decode(&lent.book, &lent.sums).filter(|state| self.soundness.is_sound(state));
+        match self.refusals.first(&self.refusals.lent_lines(call, lent, state.is_some())) {
             Some(number) => Err(number),
             None => self.step(call, state),
         }
     }
 
-    /// "Then come 15 and 13, in that order": what is asked of all that is lent.
-    fn lent_lines(&self, call: &Call, lent: &Lent, sound: bool) -> Vec<(u32, bool)> {
-        let short = lent.book.len() < BOOK || lent.sums.len() < SUMS;
-        // Two words an entry.
-        let few = lent.finishes.len() / 2 < FINISHES;
-        match call {
-            Call::Open { .. } => vec![(13, short)],
-            Call::Read { .. } => vec![(13, !sound)],
-            Call::Deliver(Delivery { keys, amounts, .. }) => vec![(15, few), (13, !sound || keys.len() != amounts.len())],
-            Call::Vote { .. } | Call::Change { .. } => vec![(15, few), (13, !sound)],
+    /// The same in place, as the library does it: "Finishes fill the finish list from its start; entries past their number keep what they held."
+    pub fn answer(&self, call: &Call, lent: &mut Lent) -> Answer {
+        match self.outcome(call, lent) {
+            Err(number) => Answer::Refused(number),
+            Ok(outcome) => {
+                encode(&outcome.state, &mut lent.book, &mut lent.sums);
+                fill(&outcome.finishes, &mut lent.finishes);
+                outcome.answer
+            }
         }
     }
 
@@ -45,12 +60,12 @@ pub trait Desk: Soundness + Rules + Refusals {
             (Call::Open { partitions, own, k }, _) => opening_state(*partitions, *own, *k),
             (_, state) => state.expect("an unsound state is refused before"),
         };
-        if let Some(number) = self.first(&self.lines(&state, call)) {
+        if let Some(number) = self.refusals.first(&self.refusals.lines(&state, call)) {
             return Err(number);
         }
         let (mut answer, closes) = self.take(call, &mut state);
         // "After every accepted delivery, vote or change"
-        let finishes = if closes { self.close(&mut state) } else { Vec::new() };
+        let finishes = if closes { self.rules.close(&mut state) } else { Vec::new() };
         if let Answer::Delivered { finishes: count, .. } | Answer::Settled { finishes: count } = &mut answer {
             *count = finishes.len() as u32;
         }
@@ -64,16 +79,16 @@ pub trait Desk: Soundness + Rules + Refusals {
             Call::Deliver(delivery) => (self.take_delivery(state, delivery), true),
             Call::Vote { identity, partition, yes } => {
                 let entry = state.waiting.iter_mut().find(|entry| entry.transaction.identity == *identity);
-                self.vote(entry.expect("it waits"), *partition, *yes);
+                self.rules.vote(entry.expect("it waits"), *partition, *yes);
                 (Answer::Settled { finishes: 0 }, true)
             }
             Call::Change { k } => {
-                self.change(state, *k);
+                self.rules.change(state, *k);
                 (Answer::Settled { finishes: 0 }, true)
             }
             Call::Read { key, st } => {
                 let version = st.unwrap_or(state.sc);
-                (Answer::Value { value: self.value(state, *key, version), version }, false)
+                (Answer::Value { value: self.rules.value(state, *key, version), version }, false)
             }
         }
     }
@@ -82,24 +97,12 @@ pub trait Desk: Soundness + Rules + Refusals {
     fn take_delivery(&self, state: &mut State, delivery: &Delivery) -> Answer {
         let Delivery { identity, set, st, reads, .. } = delivery;
         let newcomer = Transaction { identity: *identity, set: *set, st: *st, reads: reads.clone(), writes: delivery.writes() };
-        let fate = match self.deliver(state, &newcomer) {
+        let fate = match self.rules.deliver(state, &newcomer) {
             Ok(place) => Fate::Waits { place },
             Err(reason) => Fate::Aborted { reason },
         };
         let send = (!is_local(state, &newcomer)).then_some(matches!(fate, Fate::Waits { .. }));
         Answer::Delivered { dc: state.dc, fate, send, finishes: 0 }
-    }
-
-    /// The same in place, as the library does it: "Finishes fill the finish list from its start; entries past their number keep what they held."
-    fn answer(&self, call: &Call, lent: &mut Lent) -> Answer {
-        match self.outcome(call, lent) {
-            Err(number) => Answer::Refused(number),
-            Ok(outcome) => {
-                encode(&outcome.state, &mut lent.book, &mut lent.sums);
-                fill(&outcome.finishes, &mut lent.finishes);
-                outcome.answer
-            }
-        }
     }
 }
 

@@ -20,21 +20,13 @@ mod desk;
 mod show;
 
 pub use calls::{Answer, Call, Delivery, Fate, Lent};
-pub use desk::{fill, opening_state, Desk, Outcome};
+pub use desk::{fill, opening_state, Desk, Letter, Outcome, BY_THE_LETTER};
 pub use layout::{decode, encode, BOOK, SUMS};
 pub use refusals::{Line, Refusals};
 pub use rules::{is_local, outstanding, Finish, Rules};
 pub use show::show_state;
 pub use soundness::Soundness;
 pub use state::{is_member, keys_of, members, value_written, Commit, Entry, State, Transaction, Write};
-
-/// The rules as they stand.
-pub struct Letter;
-
-impl Soundness for Letter {}
-impl Rules for Letter {}
-impl Refusals for Letter {}
-impl Desk for Letter {}
 
 #[cfg(test)]
 mod tests;

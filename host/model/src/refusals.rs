@@ -1,7 +1,8 @@
 //! "Numbers the desk hands back": a function for each row's conditions, and their order.
 
-use crate::calls::{Call, Delivery};
-use crate::sizes::{DELIVERIES, KEYS, KEYS_OF_ONE, PARTITIONS, THRESHOLD, WAITING};
+use crate::calls::{Call, Delivery, Lent};
+use crate::layout::{BOOK, SUMS};
+use crate::sizes::{DELIVERIES, FINISHES, KEYS, KEYS_OF_ONE, PARTITIONS, THRESHOLD, WAITING};
 use crate::soundness::{holds_own_and_none_beyond, is_ascending};
 use crate::state::{is_member, State};
 
@@ -13,6 +14,19 @@ pub trait Refusals {
     /// A refusal "is given only when its condition holds and no earlier check applies".
     fn first(&self, lines: &[Line]) -> Option<u32> {
         lines.iter().find(|line| line.1).map(|line| line.0)
+    }
+
+    /// "Then come 15 and 13, in that order": what is asked of all that is lent.
+    fn lent_lines(&self, call: &Call, lent: &Lent, sound: bool) -> Vec<Line> {
+        let short = lent.book.len() < BOOK || lent.sums.len() < SUMS;
+        // Two words an entry.
+        let few = lent.finishes.len() / 2 < FINISHES;
+        match call {
+            Call::Open { .. } => vec![(13, short)],
+            Call::Read { .. } => vec![(13, !sound)],
+            Call::Deliver(Delivery { keys, amounts, .. }) => vec![(15, few), (13, !sound || keys.len() != amounts.len())],
+            Call::Vote { .. } | Call::Change { .. } => vec![(15, few), (13, !sound)],
+        }
     }
 
     /// "13: opening: sizes outside the table"

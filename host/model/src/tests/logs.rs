@@ -3,7 +3,7 @@
 use second::Program;
 use trial::maker::Maker;
 
-use crate::{Answer, Call, Delivery, Desk, Fate, Lent, Letter, BOOK, SUMS};
+use crate::{Answer, Call, Delivery, Fate, Lent, BOOK, BY_THE_LETTER, SUMS};
 
 /// The document's run.
 const WHOLE_RUN: [(&str, &str); 7] = [
@@ -79,7 +79,7 @@ impl Log {
             return "X\t13\n".to_string();
         }
         let mut lent = self.lent.take().unwrap_or_else(|| Lent { book: vec![0; BOOK], sums: vec![0; SUMS], finishes: vec![0; 64] });
-        let answer = Letter.answer(&call, &mut lent);
+        let answer = BY_THE_LETTER.answer(&call, &mut lent);
         let text = text(&call, answer, &lent.finishes);
         let opened = !matches!(call, Call::Open { .. }) || answer == Answer::Opened;
         self.lent = opened.then_some(lent);
