@@ -17,8 +17,9 @@ mod compare;
 mod shrink;
 mod tally;
 
-mod pieces;
 mod trials;
+
+mod pieces;
 
 #[cfg(test)]
 mod tests;

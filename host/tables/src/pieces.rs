@@ -1,6 +1,8 @@
 //! A log fed in random pieces, with random room for its answers: the answers are the second program's to the whole of it, and each piece is taken just as
 //! far as it can be.
 
+use std::ops::Range;
+
 use model::{BOOK, SUMS};
 use second::Program;
 use telvrang::lent::{self, Fed, Sizes, Standing, ANSWERS};
@@ -24,6 +26,12 @@ pub enum Beginning {
 }
 
 pub const BEGINNINGS: &[Beginning] = &[Beginning::Unopened, Beginning::Opened, Beginning::Unsound, Beginning::Short];
+
+impl Beginning {
+    fn refuses_all(self) -> bool {
+        matches!(self, Beginning::Unsound | Beginning::Short)
+    }
+}
 
 /// A log's text and the answer to each of its lines.
 pub struct Log {
@@ -51,8 +59,8 @@ impl Log {
             end += line.len();
             let mut answer = Vec::new();
             program.answer_line(line.strip_suffix(b"\n").unwrap_or(line), &mut answer);
-            // "any event: state not sound; either: a lent table too short", but "the program looks at 14 first".
-            if matches!(beginning, Beginning::Unsound | Beginning::Short) && answer != b"X\t14\n" {
+            // "any event: state not sound; either: a lent table too short", but "The program looks at 14 first".
+            if beginning.refuses_all() && answer != b"X\t14\n" {
                 answer = b"X\t13\n".to_vec();
             }
             Line { end, answer }
@@ -71,28 +79,35 @@ impl Log {
     pub fn feed(&self, feeding: Feeding, seed: u64) -> Result<(u64, u64), String> {
         let mut random = Random::new(seed);
         let (mut book, mut sums, mut standing) = self.tables(&mut random);
+        let before = (book.clone(), sums.clone());
         let (mut start, mut end, mut pieces, mut stopped) = (0, 0, 0, 0);
         loop {
             end = self.text.len().min(end + draw_piece(&mut random));
             let at_end = end == self.text.len() && random.chance(800);
-            let held = (0..draw_room(&mut random)).map(|_| random.number() as u8).collect::<Vec<u8>>();
+            let held: Vec<u8> = (0..draw_room(&mut random)).map(|_| random.number() as u8).collect();
             let mut out = held.clone();
             let fed = feeding(&self.text[start..end], at_end, standing, &mut book, &mut sums, &mut out);
             let (wanted, answers) = self.wanted(start..end, at_end, standing, out.len());
             let wanted_out = [&answers[..], &held[answers.len()..]].concat();
             if fed != wanted || out != wanted_out {
-                let (text, behind) = (text_of(&answers), if out == wanted_out { "" } else { ", and other bytes written" });
-                let piece = text_of(&self.text[start..end]);
-                return Err(format!(
-                    "{standing:?}, at the end {at_end}, room {}: {piece:?}\nshould give {wanted:?} and {text:?}\nand gives {fed:?}{behind}",
-                    out.len()
-                ));
+                let [piece, answers, out] = [&self.text[start..end], &answers, &out[..fed.wrote.min(out.len())]].map(String::from_utf8_lossy);
+                let given = format!("{piece:?}, {standing:?}, at the end {at_end}, with room for {} bytes", held.len());
+                return Err(format!("{given}\nshould give {wanted:?} and {answers:?} and nothing behind it\nand gives {fed:?} and {out:?}"));
+            }
+            if !self.leaves_what_it_may(&before, (&book, &sums)) {
+                return Err("words are changed that no event may change".to_string());
             }
             (start, standing, pieces, stopped) = (start + fed.taken, fed.standing, pieces + 1, stopped + u64::from(fed.full));
             if at_end && !fed.full {
                 return Ok((pieces, stopped));
             }
         }
+    }
+
+    /// "leaves DC and all lent memory untouched", where each line is refused; else "its excess never touched".
+    fn leaves_what_it_may(&self, before: &(Vec<u32>, Vec<i64>), (book, sums): (&[u32], &[i64])) -> bool {
+        let (words, amounts) = if self.beginning.refuses_all() { (0, 0) } else { (BOOK, SUMS) };
+        before.0[words..] == book[words..] && before.1[amounts..] == sums[amounts..]
     }
 
     fn tables(&self, random: &mut Random) -> (Vec<u32>, Vec<i64>, Standing) {
@@ -114,7 +129,7 @@ impl Log {
 
     /// Lines are taken while there is room for the answers of one event more. One that is too long is answered as soon as that can be seen, and then its
     /// bytes are taken as they come.
-    fn wanted(&self, piece: std::ops::Range<usize>, at_end: bool, standing: Standing, room: usize) -> (Fed, Vec<u8>) {
+    fn wanted(&self, piece: Range<usize>, at_end: bool, standing: Standing, room: usize) -> (Fed, Vec<u8>) {
         let mut answers = Vec::new();
         let mut fed = Fed { taken: 0, wrote: 0, full: false, standing };
         let mut place = piece.start;
@@ -140,10 +155,6 @@ impl Log {
         (fed.taken, fed.wrote) = (place - piece.start, answers.len());
         (fed, answers)
     }
-}
-
-fn text_of(bytes: &[u8]) -> String {
-    String::from_utf8_lossy(bytes).into_owned()
 }
 
 /// Mostly some lines, and lengths around that of the longest line.

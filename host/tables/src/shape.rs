@@ -4,31 +4,10 @@ use model::{is_member, sizes, Write};
 use trial::random::Random;
 
 /// Numbers at the ends of ranges, and past them.
+#[rustfmt::skip]
 pub const EXTREMES: &[u32] = &[
-    0,
-    1,
-    2,
-    7,
-    8,
-    9,
-    31,
-    32,
-    33,
-    63,
-    64,
-    65,
-    255,
-    256,
-    1_023,
-    1_024,
-    65_535,
-    65_536,
-    3_999_999_999,
-    4_000_000_000,
-    4_000_000_001,
-    1 << 31,
-    u32::MAX - 31,
-    u32::MAX,
+    0, 1, 2, 7, 8, 9, 31, 32, 33, 63, 64, 65, 255, 256, 1_023, 1_024, 65_535, 65_536,
+    1 << 31, sizes::DELIVERIES - 1, sizes::DELIVERIES, sizes::DELIVERIES + 1, u32::MAX - 31, u32::MAX,
 ];
 
 /// Chances are per mille.

@@ -63,13 +63,13 @@ fn draw_waiting(count: u64, dc: u32, shape: &Shape, random: &mut Random) -> Vec<
 fn draw_entry(identity: u32, dc: u32, shape: &Shape, random: &mut Random) -> Entry {
     let set = shape.partition_set(random);
     let (mut ayes, mut nays) = (0, 0);
-    for partition in shape.others(set).into_iter().filter(|_| random.chance(shape.heard)).collect::<Vec<_>>() {
-        let no = random.chance(shape.no_votes);
+    for partition in shape.others(set) {
+        let (heard, no) = (random.chance(shape.heard), random.chance(shape.no_votes));
         // Nothing forbids a partition to stand with both.
-        if !no || random.chance(100) {
+        if heard && (!no || random.chance(100)) {
             ayes |= 1 << partition;
         }
-        if no {
+        if heard && no {
             nays |= 1 << partition;
         }
     }

@@ -1,6 +1,6 @@
 //! A feeding with a slip is caught, and the log is shrunk.
 
-use telvrang::lent::{self, Fed, Standing, ANSWERS};
+use telvrang::lent::{self, Fed, Standing, ANSWERS, SUMS};
 use trial::compare::by_second;
 use trial::maker::Maker;
 
@@ -74,6 +74,20 @@ fn bytes_written_behind_the_answers_are_caught() {
         out.iter_mut().skip(fed.wrote).take(1).for_each(|byte| *byte = 0);
         fed
     }));
+}
+
+#[test]
+fn words_that_no_event_may_change_are_caught() {
+    let touching = |at: usize| {
+        move |input: &[u8], at_end: bool, standing: Standing, book: &mut [u32], sums: &mut [i64], out: &mut [u8]| {
+            let fed = lent::feed(input, at_end, standing, book, sums, out);
+            sums.iter_mut().skip(at).take(1).for_each(|amount| *amount ^= 1);
+            fed
+        }
+    };
+    assert!(is_caught(&touching(SUMS)));
+    let log = Log::new(b"K\t3\n".to_vec(), Beginning::Unsound);
+    assert!(log.feed(&touching(0), 1).is_err() && log.feed(&lent::feed, 1).is_ok());
 }
 
 /// Answers that would fit are given where there is less room than one event may need.
