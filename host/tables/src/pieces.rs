@@ -50,7 +50,7 @@ const OPENING: &[u8] = b"O\t2\t0\t1";
 
 impl Log {
     pub fn new(text: Vec<u8>, beginning: Beginning) -> Log {
-        let mut program = Program::default();
+        let mut program: Program = Program::default();
         if let Beginning::Opened = beginning {
             program.answer_line(OPENING, &mut Vec::new());
         }

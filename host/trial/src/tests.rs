@@ -59,7 +59,8 @@ fn a_pair_with_moved_votes_is_shrunk() {
     assert_ne!(one, other);
     assert!(one.len() < 8, "{}", String::from_utf8_lossy(&text(&one)));
     assert_ne!(no_threshold(&text(&one)), no_threshold(&text(&other)));
-    (one.sort(), other.sort());
+    one.sort();
+    other.sort();
     assert_eq!(one, other);
 }
 

@@ -101,7 +101,8 @@ fn the_model_is_like_the_second_program() {
     for seed in 0..100 {
         let mut maker = Maker::new(seed);
         maker.shape.damaged = 0;
-        let (mut log, mut program) = (Log::default(), Program::default());
+        let mut log = Log::default();
+        let mut program: Program = Program::default();
         for line in maker.log() {
             let mut answers = Vec::new();
             program.answer_line(&line, &mut answers);
