@@ -72,7 +72,7 @@ some_length : {n : ℕ} → (n ≡ 0 → ⊥) → 0 < n
 some_length h = omega arith
 
 -- Of two ways one is taken.
-by_test : {A : Type 0} (P : A → Type 0) (b : Bool) {x y : A} → (b ≡ true → P x) → (b ≡ false → P y) → P (cond b x y)
+pub by_test : {A : Type 0} (P : A → Type 0) (b : Bool) {x y : A} → (b ≡ true → P x) → (b ≡ false → P y) → P (cond b x y)
 by_test P true f g = f refl
 by_test P false f g = g refl
 

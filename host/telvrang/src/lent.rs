@@ -4,6 +4,9 @@
 //! too little, is told so by a [`Refusal`]. "A longer lent table is taken and its excess never touched." Words 0 to 5 of a book are the partitions, our
 //! own one, SC, DC, k and how many wait.
 //!
+//! Each call looks first whether the tables hold a sound state, which may take longer than the event itself; [`feed`] looks once a call, so a log as text is
+//! answered fastest in long chunks.
+//!
 //! "Finishes fill the finish list from its start; entries past their number keep what they held": [`Finishes`](crate::Finishes) reads the entries.
 //!
 //! The scope document's whole run:
