@@ -178,3 +178,15 @@ module _ {A : Type 0} where
       ∙ (set-append_left (take (suc at) l) rest at x (rw (length-take-le (suc at) l (omega arith)) (omega arith))
       ∙ (ap (λ (k : List A). k ++ rest) front
       ∙ (append_assoc (take at l) (x ∷ []) rest ∙ ap (λ (k : ℕ). take at l ++ x ∷ (s ++ drop k l)) place)))
+
+  -- a longer list: a cut of what it begins with, a list laid into that
+  pub cut_longer : (o n : ℕ) (l x : List A) → o + n ≤ length l → cut o n (l ++ x) ≡ cut o n l
+  unfolding cut
+  cut_longer o n l x h =
+      ap (take n) (drop-append-le o l x (omega arith)) ∙ take-append-le n (drop o l) x (rw (length-drop o l) (omega arith))
+
+  pub put_longer : (l x : List A) (at : ℕ) (s : List A) → at + length s ≤ length l → put (l ++ x) at s ≡ put l at s ++ x
+  unfolding put
+  put_longer l x at s h =
+      ap₂ (λ (front rest : List A). front ++ (s ++ rest)) (take-append-le at l x (omega arith)) (drop-append-le (at + length s) l x h)
+      ∙ sym (append_assoc (take at l) (s ++ drop (at + length s) l) x ∙ ap (λ (r : List A). take at l ++ r) (append_assoc s (drop (at + length s) l) x))
