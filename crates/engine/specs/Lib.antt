@@ -17,4 +17,5 @@ pub mod Longer
 pub mod Excess
 pub mod Calls
 pub mod CallMeans
+pub mod CallExcess
 pub mod Demands

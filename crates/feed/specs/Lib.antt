@@ -8,3 +8,4 @@ pub mod Taking
 pub mod Walking
 pub mod Ending
 pub mod OneAnswer
+pub mod Excess
