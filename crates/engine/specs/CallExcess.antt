@@ -1,13 +1,11 @@
 -- Calls on lent memory, one and a log of them: longer memory is taken, and whatever is lent, what stands behind the state's words and amounts is never touched.
-use Rattle.std.specs.Prelude.{ℕ, ◌*◌, List, [], ◌∷◌, ◌++◌, map, ◌≡◌, refl, ℤ, length, take, drop}
-use Rattle.std.proofs.Common.{ap, ap₂, ◌∙◌}
+use Rattle.std.specs.Prelude.{ℕ, ◌*◌, List, [], ◌∷◌, ◌++◌, map, ◌≡◌, refl, ℤ, length, drop}
+use Rattle.std.proofs.Common.{ap, ◌∙◌}
 use Rattle.rules.specs.Partitions.{is_aye}
 use Rattle.rules.specs.Ledger.{keys_of}
 use Rattle.rules.specs.Events.{Event, delivery, vote, change, read, Answer}
 use Rattle.tables.specs.Layout.{book_words, sums_words}
 use Rattle.engine.specs.Answers.{After, delivered_said, delivered_finishes, voted_said, changed_said, finishes_told, reading_said}
-use Rattle.engine.specs.Operations.{delivering, voting, changing, reading, opened}
-use Rattle.engine.specs.Lengths.{SameLengths}
 use Rattle.engine.specs.Longer.{delivering_longer, voting_longer, changing_longer, reading_longer, opening_longer}
 use Rattle.engine.specs.Excess.{ExcessKept, delivering_excess, voting_excess, changing_excess, opened_excess}
 use Rattle.engine.specs.Calls.{Memory, Called, called, amounts_of, asking, call, calls, after, opened_in}

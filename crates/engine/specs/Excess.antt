@@ -1,10 +1,10 @@
 -- "A longer lent table is taken and its excess never touched.": whatever is lent and whatever an operation answers, behind the words and amounts that the state
 -- needs all stands as it did, and so does the finish list behind the finishes told.
 use Rattle.std.specs.Prelude.{ℕ, ◌*◌, ◌/◌, ◌≤◌, Bool, cond, List, [], ◌++◌, ◌≡◌, refl, eqb, ltb, ℤ, pos, length, take, drop, Ok, Err}
-use Rattle.std.proofs.Common.{Result, sym, ap, ◌∙◌, subst, arith, eqb-true, append-nil, take-append-drop}
+use Rattle.std.proofs.Common.{Result, sym, ap, ◌∙◌, arith, eqb-true, append-nil, take-append-drop}
 use Rattle.std.proofs.Math.Seq.{drop-append_seam, length-take-le}
 use Rattle.laws.specs.Tests.{split}
-use Rattle.laws.specs.Cuts.{put, drop_put_front}
+use Rattle.laws.specs.Cuts.{drop_put_front}
 use Rattle.rules.specs.Sizes.{most_waiting}
 use Rattle.rules.specs.Events as rules
 use Rattle.rules.specs.Refusals.{too_little_room}
@@ -16,7 +16,6 @@ use Rattle.tables.specs.Opened.{blank, length_blank, opened_words, length_opened
 use Rattle.refusing.specs.declared.refusals.Refusal.{Refusal}
 use Rattle.refusing.specs.Told.{named}
 use Rattle.refusing.specs.Operands.{short, lent_number, delivery_number, vote_number, change_number, opening_number}
-use Rattle.engine.specs.declared.answers.Delivered.{Delivered}
 use Rattle.engine.specs.Answers.{After, Means, delivered_finishes, finishes_told}
 use Rattle.engine.specs.Operations.{left, delivering, voting, changing, opened}
 use Rattle.engine.specs.Public.{LongTables, room_of, cleared, delivery_accepting, vote_tables, change_tables}

@@ -1,45 +1,36 @@
 -- "A longer lent table is taken": with anything behind lent tables that are long enough, and behind a finish list with room enough, each operation answers
 -- the same and leaves the same, with what stands behind still there.
-use Rattle.std.specs.Prelude.{ℕ, suc, ◌+◌, ◌-◌, ◌/◌, ◌≤◌, ◌<◌, Bool, true, false, not, cond, ◌||◌, ◌≡◌, refl, eqb, leb, ltb, ℤ, length, Ok, Err}
-use Rattle.std.specs.List.{list_any}
+use Rattle.std.specs.Prelude.{ℕ, ◌+◌, ◌-◌, ◌/◌, ◌≤◌, ◌<◌, Bool, false, not, cond, ◌||◌, ◌≡◌, refl, eqb, leb, ℤ, length, Ok, Err}
 use mathlib.Core.List.{List, [], ◌++◌}
-use Rattle.std.proofs.Common.{Result, sym, ap, ap₂, ◌∙◌, arith, eqb-true, leb-true, leb-false, le-ltb, length-append}
+use Rattle.std.proofs.Common.{Result, ap, ◌∙◌, arith, eqb-true, leb-true, leb-false, le-ltb, length-append}
 use Rattle.std.proofs.Math.ListN.{get_or, get_or-append}
 use Rattle.std.specs.declared.option.Option as code
 use Rattle.rules.specs.Sizes.{most_waiting}
-use Rattle.rules.specs.Partitions.{only}
-use Rattle.rules.specs.Ledger.{State, Clock, sizes_fit}
-use Rattle.rules.specs.Place.{place}
+use Rattle.rules.specs.Ledger.{Clock, sizes_fit}
 use Rattle.rules.specs.Delivery.{ticked, Fate, abort, join}
 use Rattle.rules.specs.Events.{Event, delivery, vote, change, read, Snapshot, at, newest, snapshot, with_k}
-use Rattle.rules.specs.Read.{read_at}
 use Rattle.rules.specs.Soundness.{sound}
-use Rattle.rules.specs.Refusals.{too_little_room, refusal}
+use Rattle.rules.specs.Refusals.{too_little_room}
 use Rattle.laws.specs.Tests.{split}
 use Rattle.laws.specs.Tabs.{tab, tab_same}
 use Rattle.tables.specs.Layout.{book_words, sums_words, waiting_row}
 use Rattle.tables.specs.View.{waiting_words, kept_words, books_view, clock_view, view}
-use Rattle.tables.specs.Tested.{row_clash, row_blocks, row_passes}
 use Rattle.tables.specs.NewRow.{first_words}
 use Rattle.tables.specs.Judged.{lent, row_fate}
 use Rattle.tables.specs.Closed.{Desk}
-use Rattle.tables.specs.Settled.{Ready, closed_desk, settled_book}
+use Rattle.tables.specs.Settled.{Ready}
 use Rattle.tables.specs.Longer.{counter_longer, waiting_words_longer, kept_words_longer, books_longer, clock_longer, view_longer, voted_longer, opened_longer, opened_sums_longer, joined_longer, joined_sums_longer}
 use Rattle.tables.specs.LongerDesks.{longer_desk, closed_longer, settled_longer}
 use Rattle.tables.specs.Voted.{ballot}
-use Rattle.tables.specs.Opened.{opened_book, opened_sums}
 use Rattle.checking.specs.SoundTables.{sound_tables}
 use Rattle.refusing.specs.declared.refusals.Refusal.{Refusal}
 use Rattle.refusing.specs.Told.{named}
 use Rattle.refusing.specs.Snapshots.{asked}
-use Rattle.refusing.specs.Operands.{number_of, short, lent_number, delivery_number, vote_number, change_number, read_number, opening_number, index_of, waiting_identities}
+use Rattle.refusing.specs.Operands.{short, lent_number, delivery_number, vote_number, change_number, read_number, opening_number, index_of, waiting_identities}
 use Rattle.engine.specs.declared.answers.Reason.{Reason}
-use Rattle.engine.specs.declared.answers.Delivered.{Delivered}
-use Rattle.engine.specs.declared.answers.Reading.{Reading}
-use Rattle.engine.specs.declared.answers.Reading.TheVariants.{Refused, Value}
 use Rattle.engine.specs.Fates.{fate_of}
 use Rattle.engine.specs.Answers.{After}
-use Rattle.engine.specs.Delivering.{delivery_desk, delivered_answer, delivered_result, Accepting, the_fate, within, desk_at, desk_ready, deliverable}
+use Rattle.engine.specs.Delivering.{delivery_desk, delivered_answer, delivered_result, the_fate, within, desk_at, desk_ready, deliverable}
 use Rattle.engine.specs.Voting.{desk_before, voted_desk, settled_result}
 use Rattle.engine.specs.Operations.{left, delivered_on, delivering, voted_on, voting, changed_on, changing, reading, opened}
 use Rattle.engine.specs.Meanings.{long_enough}

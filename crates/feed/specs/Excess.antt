@@ -1,12 +1,12 @@
 -- "A longer lent table is taken and its excess never touched.", of a chunk of text: whatever is lent, what stands behind the state's words and amounts and behind
 -- what was written stays; and with more behind tables that are long enough a chunk gives the same.
-use Rattle.std.specs.Prelude.{ℕ, ◌+◌, ◌-◌, ◌≤◌, Bool, true, false, cond, ◌||◌, List, [], ◌∷◌, ◌++◌, ◌≡◌, refl, ltb, ℤ, length, drop, Ok, Err}
-use Rattle.std.proofs.Common.{Result, subst, sym, ap, ap₂, ◌∙◌, arith, append-nil}
+use Rattle.std.specs.Prelude.{ℕ, ◌+◌, ◌-◌, ◌≤◌, Bool, true, false, ◌||◌, List, [], ◌∷◌, ◌++◌, ◌≡◌, refl, ltb, ℤ, length, drop, Ok, Err}
+use Rattle.std.proofs.Common.{Result, subst, sym, ap, ◌∙◌, arith, append-nil}
 use Rattle.rules.specs.Events.{Event}
 use Rattle.rules.specs.Bytes.{split, newline}
 use Rattle.rules.specs.Records.{line_limit, Record, opens, event, unreadable}
 use Rattle.laws.specs.Tests as tests
-use Rattle.laws.specs.Cuts.{put, drop_put_front, length_put}
+use Rattle.laws.specs.Cuts.{drop_put_front, length_put}
 use Rattle.tables.specs.Layout.{book_words, sums_words}
 use Rattle.refusing.specs.declared.refusals.Refusal.{Refusal}
 use Rattle.engine.specs.Answers as answers
@@ -15,10 +15,9 @@ use Rattle.engine.specs.Longer.{opening_longer}
 use Rattle.engine.specs.Calls.{Memory, Called, call, opened_in}
 use Rattle.engine.specs.CallMeans.{Long}
 use Rattle.engine.specs.CallExcess.{longer_memory, longer_called, call_longer, opened_in_longer, StateExcessKept, kept_itself, kept_on, kept_long, call_excess, opened_in_excess}
-use Rattle.answers.specs.Finishes.{words_text}
 use Rattle.feed.specs.declared.Standing.{Standing}
 use Rattle.feed.specs.declared.Fed.{Fed}
-use Rattle.feed.specs.Feeding.{line_record, Recorded, called_text, opening_given, recorded, whole_given, Taken, stopped, taken_whole, behind, has_room, is_left, line_taken, tail_taken, lines_taken, feeding, After, lent_memory, after, fed}
+use Rattle.feed.specs.Feeding.{line_record, Recorded, called_text, opening_given, recorded, whole_given, Taken, taken_whole, behind, has_room, is_left, line_taken, tail_taken, lines_taken, feeding, After, lent_memory, after, fed}
 use Rattle.feed.specs.Ending.{leaves}
 
 -- What each part of a chunk leaves.

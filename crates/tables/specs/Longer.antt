@@ -1,15 +1,14 @@
 -- Longer tables: with anything behind what the state needs, they hold the same state, and each change of them leaves what stands there.
-use Rattle.std.specs.Prelude.{ℕ, suc, ◌+◌, ◌*◌, ◌-◌, ◌≤◌, ◌<◌, min, Bool, true, false, cond, ◌≡◌, refl, leb, ℤ, pos, length}
+use Rattle.std.specs.Prelude.{ℕ, suc, ◌+◌, ◌*◌, ◌-◌, ◌≤◌, ◌<◌, min, Bool, true, false, ◌≡◌, leb, ℤ, pos, length}
 use mathlib.Core.List.{List, [], ◌∷◌, ◌++◌}
 use Rattle.std.proofs.Common.{ap, ap₂, ◌∙◌, arith}
 use Rattle.std.proofs.Math.ListN.{get_or, get_or-append}
 use Rattle.std.proofs.lemmas.List.{set-append_left}
 use Rattle.rules.specs.Sizes.{keys, most_kept}
 use Rattle.rules.specs.Closing.{written}
-use Rattle.rules.specs.Partitions.{with_partition}
 use Rattle.laws.specs.Tests.{split}
 use Rattle.laws.specs.Cuts.{cut, put, length_cut, length_put, cut_longer, put_longer}
-use Rattle.laws.specs.Tabs.{tab, tab_same}
+use Rattle.laws.specs.Tabs.{tab_same}
 use Rattle.claims.specs.SoundKept.{length_written}
 use Rattle.tables.specs.Layout.{book_words, sums_words, waiting_row, waiting_amounts, kept_row, kept_amounts}
 use Rattle.tables.specs.Rows.{row_entry, row_commit, row_writes}

@@ -1,7 +1,7 @@
 -- Closing and settling on longer tables and a longer finish list: the same, with what stands behind them left there.
-use Rattle.std.specs.Prelude.{ℕ, zero, suc, ◌+◌, ◌*◌, ◌≤◌, ◌<◌, cond, ◌≡◌, refl, ℤ, length}
+use Rattle.std.specs.Prelude.{ℕ, zero, suc, ◌+◌, ◌*◌, ◌≤◌, ◌<◌, ◌≡◌, refl, ℤ, length}
 use mathlib.Core.List.{List, ◌++◌}
-use Rattle.std.proofs.Common.{sym, ap, ◌∙◌, arith}
+use Rattle.std.proofs.Common.{ap, ◌∙◌, arith}
 use Rattle.rules.specs.Ledger.{Clock}
 use Rattle.rules.specs.Closing.{ready, commits, Finish, finish}
 use Rattle.laws.specs.Tests.{split}
