@@ -36,7 +36,7 @@ pub fn by_program(program: &str, log: &[u8]) -> Vec<u8> {
 }
 
 /// Drops half the lines, then smaller runs, at last single lines, while the log stays one that is sought; then no line can be spared.
-pub fn shrink(mut lines: Vec<Vec<u8>>, sought: impl Fn(&[Vec<u8>]) -> bool) -> Vec<Vec<u8>> {
+pub fn shrink<Line: Clone>(mut lines: Vec<Line>, sought: impl Fn(&[Line]) -> bool) -> Vec<Line> {
     let mut size = lines.len().div_ceil(2);
     loop {
         let length = lines.len();

@@ -2,21 +2,13 @@
 
 #![forbid(unsafe_code)]
 
-mod random;
-mod shape;
-
-mod damage;
-mod maker;
-
-mod compare;
-mod moved;
-mod tally;
-
 #[cfg(test)]
 mod tests;
 
 use std::env;
 use std::process::ExitCode;
+
+use trial::{compare, maker, moved, tally};
 
 use compare::{by_program, by_second, shrink, text, Answering};
 use maker::Maker;
@@ -89,7 +81,9 @@ fn compare_moved_votes(answering: Answering, seed: u64) -> u64 {
     for pair in 0..PAIRS {
         let seed = seed.wrapping_add(pair);
         if let Some(difference) = moved_votes_differ(answering, seed) {
-            println!("seed {seed}: with votes moved in their windows the answers differ: {difference}");
+            println!("seed {seed}: with votes moved in their windows the answers differ: {}", difference.answers);
+            let [one, other] = difference.logs.map(|log| String::from_utf8_lossy(&text(&log)).into_owned());
+            println!("one log:\n{one}\nthe other:\n{other}");
             return 1;
         }
     }

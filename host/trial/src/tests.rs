@@ -1,8 +1,9 @@
 //! A wrong engine is caught: here it is the second program, with its answers or its log altered.
 
-use crate::compare::{by_second, shrink, text};
-use crate::maker::Maker;
-use crate::moved::moved_votes_differ;
+use trial::compare::{by_second, shrink, text};
+use trial::maker::Maker;
+use trial::moved::moved_votes_differ;
+
 use crate::{compare_logs, compare_moved_votes, LINES};
 
 /// A slip: a clash with a waiting entry is answered as one with a commit.
@@ -47,7 +48,20 @@ fn a_slip_is_found_and_shrunk() {
 #[test]
 fn a_threshold_that_is_passed_over_shows_when_votes_move() {
     assert_eq!(compare_moved_votes(&no_threshold, 1), 1);
-    assert_eq!(moved_votes_differ(&by_second, 1), None);
+    assert!(moved_votes_differ(&by_second, 1).is_none());
+}
+
+/// A transaction that waits for a vote, one that would pass it or clash with it, and the vote before or behind that one.
+#[test]
+fn a_pair_with_moved_votes_is_shrunk() {
+    let difference = (1..).find_map(|seed| moved_votes_differ(&no_threshold, seed)).expect("seeds without end");
+    let [mut one, mut other] = difference.logs;
+    assert_ne!(one, other);
+    assert!(one.len() < 8, "{}", String::from_utf8_lossy(&text(&one)));
+    assert_ne!(no_threshold(&text(&one)), no_threshold(&text(&other)));
+    one.sort();
+    other.sort();
+    assert_eq!(one, other);
 }
 
 #[test]

@@ -1,0 +1,4 @@
+//! The model against the second program on logs, and states against their words.
+
+mod logs;
+mod words;
