@@ -13,6 +13,7 @@ pub mod Progress
 pub mod LogBytes
 pub mod LogEvents
 pub mod ShortTables
+pub mod TableExcess
 pub mod OneLine
 pub mod OutLines
 pub mod LineCounts

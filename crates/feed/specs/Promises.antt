@@ -6,7 +6,7 @@ use Rattle.std.proofs.Common.{sym, ap, ap₂, ◌∙◌, subst, arith, length-ap
 use Rattle.std.proofs.lemmas.List.{length-map}
 use Rattle.rules.specs.Sizes.{most_waiting}
 use Rattle.rules.specs.Partitions.{Ballot}
-use Rattle.rules.specs.Ledger.{State, sizes_fit, opening}
+use Rattle.rules.specs.Ledger.{Entry, State, sizes_fit, opening}
 use Rattle.rules.specs.Closing.{Finish}
 use Rattle.rules.specs.Events.{Event}
 use Rattle.rules.specs.Refusals.{step}
@@ -24,11 +24,13 @@ use Rattle.claims.specs.Timing.{moves, has_vote, Timed, own_answers, Alike}
 use Rattle.claims.specs.Demand3.{demand_3}
 use Rattle.claims.specs.Counts.{own_counts}
 use Rattle.claims.specs.FullList.{WaitsForVotes, full_list_waits_for_votes}
+use Rattle.claims.specs.Followers.{Followed, full_list_followed}
 use Rattle.feed.specs.Callers.{Piece, Ending, Caller, log, out, ledger_of, Whole}
 use Rattle.feed.specs.AnyCutting.{any_cutting}
 use Rattle.feed.specs.Progress.{HasRoom, ending, and_then, next_call, enough_calls, until_not_full, same_log, ends_behind}
 use Rattle.feed.specs.LogBytes.{lines, records, Sizes, Opened, opened_by, events_in, start, events_of, text_before, text_behind, letter_w, letter_a, letter_c, letter_b, lines_of, finish_lines, own_lines, delivery_lines, told_lines}
 use Rattle.feed.specs.LogEvents.{given, log_gives, Opening, opened_exactly, opening_refused, event_text}
+use Rattle.feed.specs.TableExcess.{ExcessKept, excess_kept}
 use Rattle.feed.specs.ShortTables.{Untouched, short_untouched}
 use Rattle.feed.specs.OutLines.{text_of, its_finish_lines, its_delivery_lines, own_line_each, unopened_line_each}
 use Rattle.feed.specs.LineCounts.{w_lines, a_lines, c_lines, b_lines}
@@ -98,6 +100,13 @@ module _ (c : Caller) (whole : Whole c) where
     -- "each delivery's own answer"
     pub deliveries_by_events : delivery_lines o (out c) ≡ told_lines (moves (events_of o)) (own_answers (events_of o) (start o))
     deliveries_by_events = ap (delivery_lines o) bytes_by_events ∙ its_delivery_lines o
+
+    -- "a full list at rest has a head that waits only for votes, since 31 deliveries have followed it": accepted ones of the log
+    pub full_list_is_followed : (s : State) → ledger_of c ≡ some s → (head : Entry) (rest : List Entry) → s.waiting ≡ head ∷ rest → length s.waiting ≡ most_waiting
+        → Followed (start o) (events_of o) head 31
+    full_list_is_followed s holds head rest stands full =
+        let same = some-injective s (last (events_of o) (start o)) (sym holds ∙ ledger_by_events) in
+        full_list_followed (events_of o) o.sizes.partitions o.sizes.own o.sizes.k ((opened_exactly (records (log c)) o).0 is).accepted head rest (rw same at stands) (rw same at full)
 
   -- "Any log, any record [..] gets an answer": for each line of the log one line that is its own, besides the lines of finishes.
   pub one_answer_each : length (own_lines (out c)) ≡ length (lines (log c))
@@ -191,6 +200,10 @@ demand_3_of_bytes b c b_whole c_whole o q b_opens c_opens same =
 -- "either: a lent table too short": every line is refused by 13 or 14, no engine is opened, and the tables stay as they were.
 pub short_tables : (c : Caller) → short c.book c.sums ≡ true → Untouched c
 short_tables = short_untouched
+
+-- "A longer lent table is taken and its excess never touched.": whatever the tables hold.
+pub excess_never_touched : (c : Caller) → ExcessKept c
+excess_never_touched = excess_kept
 
 -- "13 [..] program: event before opening, or a second opening": a record out of its turn gets its number and changes nothing.
 abbrev pub only : ℕ → Option State → Told
