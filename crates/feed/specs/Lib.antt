@@ -17,6 +17,7 @@ pub mod TableExcess
 pub mod OneLine
 pub mod OutLines
 pub mod LineCounts
+pub mod LineMeanings
 pub mod Promises
 pub mod RealBytes
 pub mod Excess

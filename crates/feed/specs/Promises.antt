@@ -1,5 +1,6 @@
 -- What is promised of the bytes. Whoever gives a log to `feed`, in whatever pieces: what the calls write, and the ledger that the tables then hold, are those of document 01's rules, run
--- over the records that the log's lines are. Callers and LogBytes have the words in which this is said, the rules have all else; each promise cites where it is proved.
+-- over the records that the log's lines are. Callers and LogBytes have the words in which this is said, the rules have all else; each promise cites where it is proved. What an event's line
+-- says in 01's words is in LineMeanings; two logs as bytes, of which the third demand holds, are in RealBytes.
 use Rattle.std.specs.Prelude.{ℕ, ◌+◌, ◌≤◌, true, false, List, [], ◌∷◌, ◌++◌, map, ◌≡◌, refl, length}
 use Rattle.std.proofs.Math.Option.{Option, none, some, some-injective, some-ne-none}
 use Rattle.std.proofs.Common.{sym, ap, ap₂, ◌∙◌, subst, arith, length-append}

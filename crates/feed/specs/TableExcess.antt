@@ -1,5 +1,5 @@
 -- "A longer lent table is taken and its excess never touched.": whatever the tables hold and however long they are, calls leave all behind the state's words and amounts, and the lengths.
-use Rattle.std.specs.Prelude.{ℕ, ◌-◌, ◌+◌, Bool, true, false, ◌||◌, List, [], ◌∷◌, ◌++◌, ◌≡◌, refl, ltb, ℤ, length, drop}
+use Rattle.std.specs.Prelude.{ℕ, ◌-◌, Bool, true, false, ◌||◌, List, [], ◌∷◌, ◌++◌, ◌≡◌, refl, ltb, ℤ, length, drop}
 use Rattle.std.proofs.Common.{◌∙◌}
 use Rattle.rules.specs.Bytes.{split, newline}
 use Rattle.rules.specs.Records.{line_limit, Record, opens, event, unreadable}
@@ -8,7 +8,7 @@ use Rattle.engine.specs.Operations.{opened}
 use Rattle.engine.specs.Calls.{Memory, opened_in}
 use Rattle.engine.specs.CallExcess.{StateExcessKept, kept_itself, kept_on, call_excess, opened_in_excess}
 use Rattle.feed.specs.declared.Standing.{Standing}
-use Rattle.feed.specs.Feeding.{Recorded, line_record, recorded, whole_given, Taken, has_room, is_left, tail_taken, lines_taken, lent_memory}
+use Rattle.feed.specs.Feeding.{line_record, recorded, whole_given, Taken, has_room, is_left, tail_taken, lines_taken, lent_memory}
 use Rattle.feed.specs.Cutting.{by_test}
 use Rattle.feed.specs.Walking.{given_memory}
 use Rattle.feed.specs.Callers.{Piece, Run, run, beginning, Caller, at_the_end}
