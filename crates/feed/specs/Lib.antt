@@ -9,15 +9,15 @@ pub mod Taking
 pub mod Walking
 pub mod Ending
 pub mod OneAnswer
+pub mod Excess
 pub mod Progress
 pub mod LogBytes
 pub mod LogEvents
 pub mod ShortTables
-pub mod TableExcess
+pub mod LogExcess
 pub mod OneLine
 pub mod OutLines
 pub mod LineCounts
 pub mod LineMeanings
 pub mod Promises
 pub mod RealBytes
-pub mod Excess

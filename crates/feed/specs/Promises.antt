@@ -26,12 +26,12 @@ use Rattle.claims.specs.Demand3.{demand_3}
 use Rattle.claims.specs.Counts.{own_counts}
 use Rattle.claims.specs.FullList.{WaitsForVotes, full_list_waits_for_votes}
 use Rattle.claims.specs.Followers.{Followed, full_list_followed}
-use Rattle.feed.specs.Callers.{Piece, Ending, Caller, log, out, ledger_of, Whole}
+use Rattle.feed.specs.Callers.{Piece, Ending, Caller, log, at_the_end, out, ledger_of, Whole}
 use Rattle.feed.specs.AnyCutting.{any_cutting}
 use Rattle.feed.specs.Progress.{HasRoom, ending, and_then, next_call, enough_calls, until_not_full, same_log, ends_behind}
 use Rattle.feed.specs.LogBytes.{lines, records, Sizes, Opened, opened_by, events_in, start, events_of, text_before, text_behind, letter_w, letter_a, letter_c, letter_b, lines_of, finish_lines, own_lines, delivery_lines, told_lines}
 use Rattle.feed.specs.LogEvents.{given, log_gives, Opening, opened_exactly, opening_refused, event_text}
-use Rattle.feed.specs.TableExcess.{ExcessKept, excess_kept}
+use Rattle.feed.specs.LogExcess.{RunExcessKept, log_excess}
 use Rattle.feed.specs.ShortTables.{Untouched, short_untouched}
 use Rattle.feed.specs.OutLines.{text_of, its_finish_lines, its_delivery_lines, own_line_each, unopened_line_each}
 use Rattle.feed.specs.LineCounts.{w_lines, a_lines, c_lines, b_lines}
@@ -203,8 +203,8 @@ pub short_tables : (c : Caller) → short c.book c.sums ≡ true → Untouched c
 short_tables = short_untouched
 
 -- "A longer lent table is taken and its excess never touched.": whatever the tables hold.
-pub excess_never_touched : (c : Caller) → ExcessKept c
-excess_never_touched = excess_kept
+pub excess_never_touched : (c : Caller) → RunExcessKept c.book c.sums (at_the_end c)
+excess_never_touched = log_excess
 
 -- "13 [..] program: event before opening, or a second opening": a record out of its turn gets its number and changes nothing.
 abbrev pub only : ℕ → Option State → Told

@@ -84,7 +84,7 @@ walk_start w place m o from at list knows =
     }
 
 -- The finish list stays as long as it was.
-pub given_memory : (partitions own k : ℕ) (a : Result (Unit {0}) Refusal) (m : Memory) → (opening_given partitions own k a m).memory ≡ m
+given_memory : (partitions own k : ℕ) (a : Result (Unit {0}) Refusal) (m : Memory) → (opening_given partitions own k a m).memory ≡ m
 given_memory partitions own k (Ok done) m = refl
 given_memory partitions own k (Err r) m = refl
 
