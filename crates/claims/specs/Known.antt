@@ -31,7 +31,7 @@ unfolding last
 last_append [] fs s = refl
 last_append (e ∷ es) fs s = last_append es fs (step e s).next
 
-last_next : (before : List Event) (e : Event) (s : State) {now : State} → last before s ≡ now → last (before ++ e ∷ []) s ≡ (step e now).next
+pub last_next : (before : List Event) (e : Event) (s : State) {now : State} → last before s ≡ now → last (before ++ e ∷ []) s ≡ (step e now).next
 unfolding last
 last_next before e s here = last_append before (e ∷ []) s ∙ ap (λ (x : State). (step e x).next) here
 
@@ -90,7 +90,7 @@ own_next (vote i p b) s = refl
 own_next (change k) s = refl
 own_next (read key st) s = refl
 
-own_stays : (es : List Event) (s : State) → (last es s).clock.own ≡ s.clock.own
+pub own_stays : (es : List Event) (s : State) → (last es s).clock.own ≡ s.clock.own
 own_stays es s =
     last_keeps (λ x. x.clock.own ≡ s.clock.own)
     (λ e x h. step_keeps (λ y. y.clock.own ≡ s.clock.own) e x (λ q k. own_next e x ∙ k) h) es s refl

@@ -25,3 +25,5 @@ pub mod Known
 pub mod Demand3
 pub mod InTime
 pub mod RealLogs
+pub mod OwnDeliveries
+pub mod Followers

@@ -5,7 +5,7 @@ use Rattle.std.proofs.Common.{sym, ap, ap₂, ◌∙◌, subst, arith, take_all}
 use Rattle.std.proofs.Math.Seq.{take-append-le}
 use Rattle.rules.specs.Sizes.{most_waiting}
 use Rattle.rules.specs.Partitions.{Ballot}
-use Rattle.rules.specs.Ledger.{State, sizes_fit, opening}
+use Rattle.rules.specs.Ledger.{Entry, State, sizes_fit, opening}
 use Rattle.rules.specs.Closing.{Finish}
 use Rattle.rules.specs.Events.{Event, delivery, vote, change, read, Answer, Step}
 use Rattle.rules.specs.Refusals.{step}
@@ -17,6 +17,7 @@ use Rattle.claims.specs.Timing.{moves, has_vote, Timed, own_answers}
 use Rattle.claims.specs.Demand3.{demand_3}
 use Rattle.claims.specs.Counts.{accepted_deliveries, committed_in, joined_in, aborted_at_delivery, aborted_at_closing, own_counts}
 use Rattle.claims.specs.FullList.{WaitsForVotes, full_list_waits_for_votes}
+use Rattle.claims.specs.Followers.{Followed, full_list_followed}
 use Rattle.tables.specs.Closed.{entry_words, words_of}
 use Rattle.engine.specs.Operations.{opened}
 use Rattle.engine.specs.Meanings.{opened_means}
@@ -133,6 +134,12 @@ module _ (partitions own k : ℕ) (fits : sizes_fit partitions own k ≡ true) (
       → WaitsForVotes (held (after es start)).clock (held (after es start)).waiting
   full_list_waits es full =
       rw (state_is es) (full_list_waits_for_votes es partitions own k fits (rw (state_is es) at full))
+
+  -- ".. since 31 deliveries have followed it", accepted ones by the answers of the log
+  pub full_list_is_followed : (es : List Event) (head : Entry) (rest : List Entry) → (held (after es start)).waiting ≡ head ∷ rest
+      → length (held (after es start)).waiting ≡ most_waiting → Followed (opening partitions own k) es head 31
+  full_list_is_followed es head rest stands full =
+      full_list_followed es partitions own k fits head rest (rw (state_is es) at stands) (rw (state_is es) at full)
 
 -- Demand 3: engines opened alike, in memory of any content, on logs that differ only in when the votes come and in their reads.
 pub record AlikeCalls (es fs : List Event) (m n : Memory) : Type 0 where

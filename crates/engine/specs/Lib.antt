@@ -13,6 +13,9 @@ pub mod Named
 pub mod Meanings
 pub mod OneAnswer
 pub mod Lengths
+pub mod Longer
+pub mod Excess
 pub mod Calls
 pub mod CallMeans
+pub mod CallExcess
 pub mod Demands

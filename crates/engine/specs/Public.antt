@@ -62,7 +62,7 @@ long_tables book sums q =
       long_sums = ltb-false (length sums) sums_words (or_right (ltb (length book) book_words) (ltb (length sums) sums_words) q);
     }
 
-room_of : (words : ℕ) → ltb (words / 2) most_waiting ≡ false → 64 ≤ words
+pub room_of : (words : ℕ) → ltb (words / 2) most_waiting ≡ false → 64 ≤ words
 room_of words q = let h = ltb-false (words / 2) most_waiting q in omega arith
 
 -- Delivery.

@@ -17,3 +17,4 @@ pub mod OutLines
 pub mod LineCounts
 pub mod Promises
 pub mod RealBytes
+pub mod Excess

@@ -7,7 +7,7 @@ use Rattle.std.proofs.Math.Path.{refl, sym, ap, ap₂}
 use Rattle.std.proofs.Common.{◌∙◌, take_at, take-take, drop-drop, drop-cons, get_or-append-add}
 use native.Mathlib.Omega.{arith}
 use Rattle.std.proofs.Math.ListN.{length, take, drop, get_or, set, length-append, length-drop, take-append-drop, get_or-append}
-use Rattle.std.proofs.Math.Seq.{length-take-le, take-append-le, drop-append-le, drop-append-add, get_or-take, get_or-drop, set_split, take_all, take-append-add, take-suc, take-set-lt, take-suc-set}
+use Rattle.std.proofs.Math.Seq.{length-take-le, take-append-le, drop-append-le, drop-append-add, drop-append_seam, get_or-take, get_or-drop, set_split, take_all, take-append-add, take-suc, take-set-lt, take-suc-set}
 use Rattle.std.proofs.lemmas.List.{set-append_left}
 
 module _ {A : Type 0} where
@@ -178,3 +178,21 @@ module _ {A : Type 0} where
       ∙ (set-append_left (take (suc at) l) rest at x (rw (length-take-le (suc at) l (omega arith)) (omega arith))
       ∙ (ap (λ (k : List A). k ++ rest) front
       ∙ (append_assoc (take at l) (x ∷ []) rest ∙ ap (λ (k : ℕ). take at l ++ x ∷ (s ++ drop k l)) place)))
+
+  -- a longer list: a cut of what it begins with, a list laid into that
+  pub cut_longer : (o n : ℕ) (l x : List A) → o + n ≤ length l → cut o n (l ++ x) ≡ cut o n l
+  unfolding cut
+  cut_longer o n l x h =
+      ap (take n) (drop-append-le o l x (omega arith)) ∙ take-append-le n (drop o l) x (rw (length-drop o l) (omega arith))
+
+  pub put_longer : (l x : List A) (at : ℕ) (s : List A) → at + length s ≤ length l → put (l ++ x) at s ≡ put l at s ++ x
+  unfolding put
+  put_longer l x at s h =
+      ap₂ (λ (front rest : List A). front ++ (s ++ rest)) (take-append-le at l x (omega arith)) (drop-append-le (at + length s) l x h)
+      ∙ sym (append_assoc (take at l) (s ++ drop (at + length s) l) x ∙ ap (λ (r : List A). take at l ++ r) (append_assoc s (drop (at + length s) l) x))
+
+  -- behind a list laid in at the front
+  pub drop_put_front : (l s : List A) (n : ℕ) → n ≡ length s → drop n (put l 0 s) ≡ drop n l
+  unfolding put
+  drop_put_front l s n e =
+      let place : 0 + length s ≡ length s = omega arith in rw (e, place) (drop-append_seam s (drop (length s) l))

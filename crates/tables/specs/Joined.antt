@@ -43,11 +43,11 @@ module _ (book : List ℕ) (sums : List ℤ) (n i : ℕ) (first reads keys : Lis
   moved_sums : length (cut (waiting_amounts i) (8 * (n - i)) sums) ≡ 8 * (n - i)
   moved_sums = length_cut (waiting_amounts i) (8 * (n - i)) sums (omega arith)
 
-  length_gap : length (gap_book book n i) ≡ length book
+  pub length_gap : length (gap_book book n i) ≡ length book
   unfolding gap_book
   length_gap = let m = moved in length_put book (waiting_row (suc i)) (cut (waiting_row i) (24 * (n - i)) book) (omega arith)
 
-  length_gap_sums : length (gap_sums sums n i) ≡ length sums
+  pub length_gap_sums : length (gap_sums sums n i) ≡ length sums
   unfolding gap_sums
   length_gap_sums = let m = moved_sums in length_put sums (waiting_amounts (suc i)) (cut (waiting_amounts i) (8 * (n - i)) sums) (omega arith)
 

@@ -15,3 +15,5 @@ pub mod Good
 pub mod Bytes
 pub mod Judged
 pub mod Settled
+pub mod Longer
+pub mod LongerDesks

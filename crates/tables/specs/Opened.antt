@@ -34,7 +34,7 @@ opened_book book partitions own k = put book 0 (opened_words partitions own k)
 unfoldable pub opened_sums : List ℤ → List ℤ
 opened_sums sums = put sums 0 (blank sums_words (pos 0))
 
-length_opened_words : (partitions own k : ℕ) → length (opened_words partitions own k) ≡ book_words
+pub length_opened_words : (partitions own k : ℕ) → length (opened_words partitions own k) ≡ book_words
 unfolding opened_words
 length_opened_words partitions own k = let l = length_blank {A = ℕ} 2304 0 in omega arith
 

@@ -1,46 +1,11 @@
 //! One engine for one partition: what each event does.
 
+use crate::desk::{Delivery, Desk, Finish, Outcome, Reason};
 use crate::few::Few;
 use crate::refusal::Refusal;
 use crate::sizes::{DELIVERIES, KEYS, KEYS_OF_ONE, PARTITIONS, THRESHOLD, WAITING};
-use crate::store::{Store, Write};
+use crate::store::Store;
 use crate::waiting::{Entry, WaitingList};
-
-/// "A transaction has an identity, a set of partitions (one bit each), a snapshot st, keys read, and writes (key and value)."
-#[derive(Clone, Copy, Debug)]
-pub struct Delivery<'a> {
-    pub identity: u32,
-    pub partitions: u8,
-    pub st: u32,
-    pub reads: &'a [u16],
-    pub writes: &'a [Write],
-}
-
-/// What becomes of an accepted delivery, before the closing that it brings. "For a global one, the answer also tells the host which vote to send": yes
-/// where it waits, no where it was aborted.
-#[derive(Clone, Copy, Debug, PartialEq, Eq)]
-pub enum Outcome {
-    Waits { place: usize },
-    Aborted { reason: Reason },
-}
-
-/// Why a delivery was aborted.
-#[derive(Clone, Copy, Debug, PartialEq, Eq)]
-pub enum Reason {
-    /// It clashes with a commit after its snapshot.
-    Commit = 1,
-    /// A global one clashes with a waiting entry.
-    WaitingEntry = 2,
-    /// There is no place for a local one.
-    NoPlace = 3,
-}
-
-/// "C identity, version; or B identity"
-#[derive(Clone, Copy, Debug, PartialEq, Eq)]
-pub enum Finish {
-    Committed { identity: u32, version: u32 },
-    Aborted { identity: u32 },
-}
 
 /// "It takes events in log order and keeps a waiting list, a store with versions, a snapshot counter SC and a delivery counter DC."
 #[derive(Clone, Debug)]
@@ -53,25 +18,23 @@ pub struct Engine {
     store: Store,
 }
 
-impl Engine {
-    /// "13: opening: sizes outside the table"
-    pub fn open(partitions: u8, own: u8, k: u16) -> Result<Self, Refusal> {
+impl Desk for Engine {
+    fn open(partitions: u8, own: u8, k: u16) -> Result<Self, Refusal> {
         if partitions == 0 || partitions > PARTITIONS || own >= partitions || k > THRESHOLD {
             return Err(Refusal::Opening);
         }
         Ok(Engine { partitions, own, k, dc: 0, waiting: WaitingList::new(), store: Store::new() })
     }
 
-    pub fn dc(&self) -> u32 {
+    fn dc(&self) -> u32 {
         self.dc
     }
 
-    pub fn sc(&self) -> u32 {
+    fn sc(&self) -> u32 {
         self.store.sc()
     }
 
-    /// "DC rises by 1. The transaction gets rt = DC + k, with the k then in force." Finishes are added to the list.
-    pub fn deliver(&mut self, delivery: &Delivery, finishes: &mut Vec<Finish>) -> Result<Outcome, Refusal> {
+    fn deliver(&mut self, delivery: &Delivery, finishes: &mut Vec<Finish>) -> Result<Outcome, Refusal> {
         self.admit(delivery)?;
         self.dc += 1;
         let outcome = match self.certify(delivery) {
@@ -85,8 +48,7 @@ impl Engine {
         Ok(outcome)
     }
 
-    /// "Yes or no, from another partition of a waiting global transaction. It is stored."
-    pub fn vote(&mut self, identity: u32, partition: u8, yes: bool, finishes: &mut Vec<Finish>) -> Result<(), Refusal> {
+    fn vote(&mut self, identity: u32, partition: u8, yes: bool, finishes: &mut Vec<Finish>) -> Result<(), Refusal> {
         let own = self.own;
         let Some(entry) = self.waiting.entry(identity) else {
             return Err(Refusal::NotWaiting);
@@ -105,8 +67,7 @@ impl Engine {
         Ok(())
     }
 
-    /// "The new k holds for later deliveries only."
-    pub fn change(&mut self, k: u16, finishes: &mut Vec<Finish>) -> Result<(), Refusal> {
+    fn change(&mut self, k: u16, finishes: &mut Vec<Finish>) -> Result<(), Refusal> {
         if k > THRESHOLD {
             return Err(Refusal::Threshold);
         }
@@ -115,15 +76,16 @@ impl Engine {
         Ok(())
     }
 
-    /// "Read of a key at st: the value of the newest version that is at most st. It changes nothing."
-    pub fn read(&self, key: u16, st: u32) -> Result<i64, Refusal> {
+    fn read(&self, key: u16, st: u32) -> Result<i64, Refusal> {
         if usize::from(key) >= KEYS {
             return Err(Refusal::Keys);
         }
         self.snapshot(st)?;
         Ok(self.store.read(key, st))
     }
+}
 
+impl Engine {
     /// "those of the event in rising order": 1 to 8.
     fn admit(&self, delivery: &Delivery) -> Result<(), Refusal> {
         let opened = u8::MAX >> (PARTITIONS - self.partitions);
@@ -238,7 +200,7 @@ fn in_order(keys: impl Iterator<Item = u16>) -> bool {
 
 #[cfg(test)]
 mod tests {
-    use super::{Delivery, Engine, Outcome};
+    use super::{Delivery, Desk, Engine, Outcome};
     use crate::refusal::Refusal;
     use crate::sizes::DELIVERIES;
 

@@ -1,22 +1,29 @@
-//! The program over the engine: lines of a log in, lines of answers out.
+//! The program over an engine: lines of a log in, lines of answers out.
 
 use std::io::{self, BufRead, ErrorKind, Read};
 
 use crate::answers::AnswerLine;
-use crate::engine::{Delivery, Engine, Finish, Outcome};
+use crate::desk::{Delivery, Desk, Finish, Outcome};
+use crate::engine::Engine;
 use crate::records::{read_record, Lists, Record};
 use crate::refusal::Refusal;
 use crate::sizes::{LINE, READ};
 
 /// An engine that may not be open yet, and what one line needs.
-#[derive(Debug, Default)]
-pub struct Program {
-    engine: Option<Engine>,
+#[derive(Debug)]
+pub struct Program<D = Engine> {
+    engine: Option<D>,
     lists: Lists,
     finishes: Vec<Finish>,
 }
 
-impl Program {
+impl<D> Default for Program<D> {
+    fn default() -> Self {
+        Program { engine: None, lists: Lists::default(), finishes: Vec::new() }
+    }
+}
+
+impl<D: Desk> Program<D> {
     /// Adds the answer to one line, without its newline, and "after its event, one line a finish".
     pub fn answer_line(&mut self, line: &[u8], text: &mut Vec<u8>) {
         if let Err(refusal) = self.answer(line, text) {
@@ -74,45 +81,49 @@ impl Program {
         if self.engine.is_some() {
             return Err(Refusal::Opening);
         }
-        self.engine = Some(Engine::open(partitions, own, k)?);
+        self.engine = Some(D::open(partitions, own, k)?);
         AnswerLine::new(text, b'O').number(partitions).number(own).number(k).end();
         Ok(())
     }
+
+    /// Answers a whole log. What has been answered is written before more is asked of the input, and at the end. "No input gives no output."
+    pub fn answer_log(&mut self, input: &mut impl Read, output: &mut impl io::Write) -> io::Result<()> {
+        let mut text = Vec::with_capacity(READ);
+        let mut buffer = vec![0; LINE + READ];
+        let mut held = 0; // bytes at the buffer's start of a line whose newline hasn't come: LINE or fewer
+        let mut skipping = false; // of a line that was too long and is answered: its newline hasn't come
+        loop {
+            let got = read(input, &mut buffer[held..held + READ])?;
+            if got == 0 {
+                break;
+            }
+            let end = held + got;
+            let mut start = 0;
+            while let Some(line) = whole_line(&buffer[start..end]) {
+                if !std::mem::take(&mut skipping) {
+                    self.answer_line(line, &mut text);
+                }
+                start += line.len() + 1;
+            }
+            if end - start > LINE && !skipping {
+                self.answer_line(&buffer[start..end], &mut text);
+                skipping = true;
+            }
+            held = if skipping { 0 } else { end - start };
+            buffer.copy_within(start..start + held, 0);
+            write(output, &mut text)?;
+        }
+        // "The last line may lack its newline."
+        if held > 0 {
+            self.answer_line(&buffer[..held], &mut text);
+        }
+        write(output, &mut text)
+    }
 }
 
-/// Answers a whole log. What has been answered is written before more is asked of the input, and at the end. "No input gives no output."
+/// Answers a whole log by this program's own engine.
 pub fn answer_log(input: &mut impl Read, output: &mut impl io::Write) -> io::Result<()> {
-    let mut program = Program::default();
-    let mut text = Vec::with_capacity(READ);
-    let mut buffer = vec![0; LINE + READ];
-    let mut held = 0; // bytes at the buffer's start of a line whose newline hasn't come: LINE or fewer
-    let mut skipping = false; // of a line that was too long and is answered: its newline hasn't come
-    loop {
-        let got = read(input, &mut buffer[held..held + READ])?;
-        if got == 0 {
-            break;
-        }
-        let end = held + got;
-        let mut start = 0;
-        while let Some(line) = whole_line(&buffer[start..end]) {
-            if !std::mem::take(&mut skipping) {
-                program.answer_line(line, &mut text);
-            }
-            start += line.len() + 1;
-        }
-        if end - start > LINE && !skipping {
-            program.answer_line(&buffer[start..end], &mut text);
-            skipping = true;
-        }
-        held = if skipping { 0 } else { end - start };
-        buffer.copy_within(start..start + held, 0);
-        write(output, &mut text)?;
-    }
-    // "The last line may lack its newline."
-    if held > 0 {
-        program.answer_line(&buffer[..held], &mut text);
-    }
-    write(output, &mut text)
+    Program::<Engine>::default().answer_log(input, output)
 }
 
 /// The first line, without its newline, if the newline is there.

@@ -2,7 +2,7 @@
 
 use std::collections::BTreeSet;
 
-use crate::{Delivery, Engine, Finish, Outcome, Reason, Refusal, Write};
+use crate::{Delivery, Desk, Engine, Finish, Outcome, Reason, Refusal, Write};
 
 #[derive(Clone, Default)]
 struct Transaction {
