@@ -12,6 +12,14 @@ pub struct Commit {
     pub writes: Few<Write>,
 }
 
+impl Commit {
+    /// What it wrote to the key, if it did.
+    fn written(&self, key: u16) -> Option<i64> {
+        let found = self.writes.binary_search_by_key(&key, |write| write.key);
+        found.ok().map(|place| self.writes[place].value)
+    }
+}
+
 #[derive(Clone, Debug)]
 pub struct Store {
     sc: u32,
@@ -60,8 +68,7 @@ impl Store {
     /// "Read of a key at st: the value of the newest version that is at most st."
     pub fn read(&self, key: u16, st: u32) -> i64 {
         let mut newest_first = self.kept.range(..self.kept_up_to(st)).rev();
-        let written = newest_first.find_map(|commit| commit.writes.iter().find(|write| write.key == key));
-        written.map_or(self.at_floor[usize::from(key)], |write| write.value)
+        newest_first.find_map(|commit| commit.written(key)).unwrap_or(self.at_floor[usize::from(key)])
     }
 
     fn kept_up_to(&self, st: u32) -> usize {

@@ -13,11 +13,10 @@ use crate::library::Library;
 use crate::spoils::SPOILS;
 use crate::tally::Tally;
 use crate::trials::{compare_calls, Differing};
-use crate::CALLS;
 use trial::random::Random;
 
 /// So many calls are made within a few seconds.
-const SOON: u64 = 100_000;
+const SOON: u64 = 50_000;
 
 fn first_difference(library: Library) -> Option<Differing> {
     compare_calls(library, SOON, 1, &mut Tally::default()).1
@@ -46,8 +45,8 @@ fn by_model(call: &Call, lent: &mut Lent) -> Answer {
 #[test]
 fn the_model_is_like_itself() {
     let mut tally = Tally::default();
-    let (calls, differing) = compare_calls(&by_model, CALLS, 1, &mut tally);
-    assert!(calls >= CALLS && differing.is_none());
+    let (calls, differing) = compare_calls(&by_model, SOON, 1, &mut tally);
+    assert!(calls >= SOON && differing.is_none());
     assert_eq!(tally.missing(), []);
 }
 

@@ -1,8 +1,10 @@
 //! The numbers in another order, and with their lines drawn elsewhere.
 
-use model::{decode, Answer, Call, Delivery, Lent, Letter, Line, Refusals, State};
+use model::{decode, Answer, Call, Delivery, Desk, Lent, Letter, Line, Refusals, State, BY_THE_LETTER};
 
 use super::{are_refusals_caught, by_model, is_caught};
+use crate::tally::Tally;
+use crate::trials::compare_calls;
 
 /// Where both numbers' conditions hold, the later one is given.
 struct Turned(u32, u32);
@@ -143,5 +145,7 @@ fn other_lengths_are_caught() {
     for (finish_words, keys_counted) in [(62, true), (63, true), (65, true), (0, true), (64, false)] {
         assert!(are_refusals_caught(&Lengths { finish_words, keys_counted }), "{finish_words} {keys_counted}");
     }
-    assert!(!are_refusals_caught(&Lengths { finish_words: 64, keys_counted: true }));
+    // And with the lengths of the document it is the model.
+    let by_lengths = |call: &Call, lent: &mut Lent| Desk { refusals: &Lengths { finish_words: 64, keys_counted: true }, ..BY_THE_LETTER }.answer(call, lent);
+    assert!(compare_calls(&by_lengths, 10_000, 1, &mut Tally::default()).1.is_none());
 }

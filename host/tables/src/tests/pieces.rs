@@ -94,10 +94,9 @@ fn words_that_no_event_may_change_are_caught() {
 #[test]
 fn a_line_taken_into_little_room_is_caught() {
     assert!(is_caught(&|input, at_end, standing, book, sums, out| {
-        let mut room = vec![0; ANSWERS.max(out.len())];
-        let (mut new_book, mut new_sums) = (book.to_vec(), sums.to_vec());
+        let (mut room, mut new_book, mut new_sums) = (vec![0; ANSWERS], book.to_vec(), sums.to_vec());
         let fed = lent::feed(input, at_end, standing, &mut new_book, &mut new_sums, &mut room);
-        if fed.wrote > out.len() {
+        if out.len() >= ANSWERS || fed.wrote > out.len() {
             return lent::feed(input, at_end, standing, book, sums, out);
         }
         out[..fed.wrote].copy_from_slice(&room[..fed.wrote]);
