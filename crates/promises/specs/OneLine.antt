@@ -18,7 +18,7 @@ use Rattle.numerals.specs.Decimal.{decimal_absent, newline_no_digit}
 use Rattle.numerals.specs.Amounts.{signed_text_absent}
 use Rattle.numerals.specs.Parts.{split_front}
 use Rattle.feed.specs.Splits.{some_part, whole_more}
-use Rattle.feed.specs.LogBytes.{lines, letter_w, letter_a, letter_c, letter_b}
+use Rattle.promises.specs.LogBytes.{lines, letter_w, letter_a, letter_c, letter_b}
 
 -- A line in front of others.
 line_in_front : (line others : List ℕ) → member newline line ≡ false → lines (line ++ newline ∷ others) ≡ line ∷ lines others

@@ -26,15 +26,15 @@ use Rattle.claims.specs.Demand3.{demand_3}
 use Rattle.claims.specs.Counts.{own_counts}
 use Rattle.claims.specs.FullList.{WaitsForVotes, full_list_waits_for_votes}
 use Rattle.claims.specs.Followers.{Followed, full_list_followed}
-use Rattle.feed.specs.Callers.{Piece, Ending, Caller, log, at_the_end, out, ledger_of, Whole}
-use Rattle.feed.specs.AnyCutting.{any_cutting}
-use Rattle.feed.specs.Progress.{HasRoom, ending, and_then, next_call, enough_calls, until_not_full, same_log, ends_behind}
-use Rattle.feed.specs.LogBytes.{lines, records, Sizes, Opened, opened_by, events_in, start, events_of, text_before, text_behind, letter_w, letter_a, letter_c, letter_b, lines_of, finish_lines, own_lines, delivery_lines, told_lines}
-use Rattle.feed.specs.LogEvents.{given, log_gives, Opening, opened_exactly, opening_refused, event_text}
-use Rattle.feed.specs.LogExcess.{RunExcessKept, log_excess}
-use Rattle.feed.specs.ShortTables.{Untouched, short_untouched}
-use Rattle.feed.specs.OutLines.{text_of, its_finish_lines, its_delivery_lines, own_line_each, unopened_line_each}
-use Rattle.feed.specs.LineCounts.{w_lines, a_lines, c_lines, b_lines}
+use Rattle.promises.specs.Callers.{Piece, Ending, Caller, log, at_the_end, out, ledger_of, Whole}
+use Rattle.promises.specs.AnyCutting.{any_cutting}
+use Rattle.promises.specs.Progress.{HasRoom, ending, and_then, next_call, enough_calls, until_not_full, same_log, ends_behind}
+use Rattle.promises.specs.LogBytes.{lines, records, Sizes, Opened, opened_by, events_in, start, events_of, text_before, text_behind, letter_w, letter_a, letter_c, letter_b, lines_of, finish_lines, own_lines, delivery_lines, told_lines}
+use Rattle.promises.specs.LogEvents.{given, log_gives, Opening, opened_exactly, opening_refused, event_text}
+use Rattle.promises.specs.LogExcess.{RunExcessKept, log_excess}
+use Rattle.promises.specs.ShortTables.{Untouched, short_untouched}
+use Rattle.promises.specs.OutLines.{text_of, its_finish_lines, its_delivery_lines, own_line_each, unopened_line_each}
+use Rattle.promises.specs.LineCounts.{w_lines, a_lines, c_lines, b_lines}
 
 -- A log is taken whole by calls until one that says that the log ends isn't full. There is one, "and never a stop": with room for the longest answer each time, as many calls as the log has
 -- bytes are enough.

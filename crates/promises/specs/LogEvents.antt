@@ -11,7 +11,7 @@ use Rattle.rules.specs.Records.{Record, opens, event, unreadable, record_of}
 use Rattle.rules.specs.AnswerText.{refusal_text, opened_text, step_text}
 use Rattle.rules.specs.Program.{Told, open_record, event_record, take_record, take_lines, run_text}
 use Rattle.laws.specs.Tests.{split, or_left, or_right, or_neither}
-use Rattle.feed.specs.LogBytes.{lines, records, Sizes, Opened, is_accepted, preceded, opened_by, events_in, start, events_of, text_before, text_behind}
+use Rattle.promises.specs.LogBytes.{lines, records, Sizes, Opened, is_accepted, preceded, opened_by, events_in, start, events_of, text_before, text_behind}
 
 -- The program's lines, as records.
 unfoldable take_records : List Record → Option State → Told

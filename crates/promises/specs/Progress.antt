@@ -12,7 +12,7 @@ use Rattle.feed.specs.declared.Standing.{Standing}
 use Rattle.feed.specs.Feeding.{Taken, has_room, is_left, tail_taken, lines_taken, After, fed}
 use Rattle.feed.specs.Splits.{Parts, some_part}
 use Rattle.feed.specs.Cutting.{by_test}
-use Rattle.feed.specs.Callers.{Piece, bytes_of, Ending, Run, run, beginning, Caller, log, at_the_end}
+use Rattle.promises.specs.Callers.{Piece, bytes_of, Ending, Run, run, beginning, Caller, log, at_the_end}
 
 -- With room a call is full only behind a line that it took.
 abbrev GoesOn : Taken → Type 0

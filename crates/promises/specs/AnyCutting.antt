@@ -11,7 +11,7 @@ use Rattle.feed.specs.declared.Standing.{Standing}
 use Rattle.feed.specs.Feeding.{lent_memory, feeding}
 use Rattle.feed.specs.Meaning.{ledger, Fit}
 use Rattle.feed.specs.Cutting.{rest, rest_of, chunk_continues}
-use Rattle.feed.specs.Callers.{Piece, bytes_of, Ending, Run, run, beginning, Caller, log, at_the_end, out, ledger_of, Whole}
+use Rattle.promises.specs.Callers.{Piece, bytes_of, Ending, Run, run, beginning, Caller, log, at_the_end, out, ledger_of, Whole}
 
 -- A call holds a finish list by itself, so of the memory that it leaves only the tables stay.
 abbrev pub tables_of : Memory → Memory

@@ -13,9 +13,9 @@ use Rattle.rules.specs.WholeRun.{whole_run}
 use Rattle.rules.specs.WholeRunText.{the_log}
 use Rattle.claims.specs.Timing.{moves, is_vote, has_vote}
 use Rattle.claims.specs.RealLogs.{early_vote, whole_run_timed, early_vote_timed}
-use Rattle.feed.specs.Callers.{Caller, log, Whole}
-use Rattle.feed.specs.LogBytes.{records, Sizes, Opened, opened_by, events_in}
-use Rattle.feed.specs.Promises.{SameMovesAndVotes, AlikeBytes, demand_3_of_bytes}
+use Rattle.promises.specs.Callers.{Caller, log, Whole}
+use Rattle.promises.specs.LogBytes.{records, Sizes, Opened, opened_by, events_in}
+use Rattle.promises.specs.Promises.{SameMovesAndVotes, AlikeBytes, demand_3_of_bytes}
 
 abbrev two_own_0 : Sizes
 two_own_0 = record { partitions = 2; own = 0; k = 1 }

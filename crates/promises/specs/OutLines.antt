@@ -13,9 +13,9 @@ use Rattle.rules.specs.Logs.{steps, finishes}
 use Rattle.rules.specs.Records.{Record, opens, event, unreadable}
 use Rattle.rules.specs.AnswerText.{refusal_text, opened_text, outcome_text, finishes_text, delivery_text, answer_text, step_text}
 use Rattle.claims.specs.Timing.{moves, own_answers}
-use Rattle.feed.specs.LogBytes.{lines, Opened, events_in, start, events_of, text_before, text_behind, letter_c, letter_b, is_finish, finish_lines, own_lines, at_deliveries, delivery_lines, told_lines}
-use Rattle.feed.specs.LogEvents.{number_before, text_before_one}
-use Rattle.feed.specs.OneLine.{no_lines, OneLine, refusal_line, opened_line, outcome_letter, outcome_line, own_letter, own_line}
+use Rattle.promises.specs.LogBytes.{lines, Opened, events_in, start, events_of, text_before, text_behind, letter_c, letter_b, is_finish, finish_lines, own_lines, at_deliveries, delivery_lines, told_lines}
+use Rattle.promises.specs.LogEvents.{number_before, text_before_one}
+use Rattle.promises.specs.OneLine.{no_lines, OneLine, refusal_line, opened_line, outcome_letter, outcome_line, own_letter, own_line}
 
 -- The line that a text is.
 abbrev pub the_line : {letter : ℕ} {text : List ℕ} → OneLine letter text → List ℕ

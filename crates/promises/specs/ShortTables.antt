@@ -11,10 +11,10 @@ use Rattle.engine.specs.Calls.{Memory, opened_in}
 use Rattle.feed.specs.declared.Standing.{Standing}
 use Rattle.feed.specs.Feeding.{line_record, recorded, whole_given, Taken, has_room, is_left, tail_taken, lines_taken, lent_memory}
 use Rattle.feed.specs.Cutting.{by_test}
-use Rattle.feed.specs.Callers.{Piece, Run, run, beginning, Caller, at_the_end, out, ledger_of}
-use Rattle.feed.specs.AnyCutting.{written}
-use Rattle.feed.specs.LogBytes.{text_before}
-use Rattle.feed.specs.LogEvents.{number_before, text_before_one}
+use Rattle.promises.specs.Callers.{Piece, Run, run, beginning, Caller, at_the_end, out, ledger_of}
+use Rattle.promises.specs.AnyCutting.{written}
+use Rattle.promises.specs.LogBytes.{text_before}
+use Rattle.promises.specs.LogEvents.{number_before, text_before_one}
 
 -- A text of refusals by 13 and 14 alone, as that of some records with no opening that is accepted.
 pub record OnlyRefused (text : List ℕ) : Type 0 where

@@ -10,11 +10,11 @@ use Rattle.rules.specs.Refusals.{step}
 use Rattle.rules.specs.Logs.{steps, finishes}
 use Rattle.rules.specs.Records.{Record, opens, event, unreadable}
 use Rattle.claims.specs.Counts.{joins_told, aborts_told, commit_of, abort_of, joined_in, aborted_at_delivery, committed_in, aborted_at_closing}
-use Rattle.feed.specs.LogBytes.{Opened, events_in, start, events_of, letter_w, letter_a, letter_c, letter_b, begins, lines_of}
-use Rattle.feed.specs.LogEvents.{number_before}
-use Rattle.feed.specs.OneLine.{outcome_letter, own_letter}
+use Rattle.promises.specs.LogBytes.{Opened, events_in, start, events_of, letter_w, letter_a, letter_c, letter_b, begins, lines_of}
+use Rattle.promises.specs.LogEvents.{number_before}
+use Rattle.promises.specs.OneLine.{outcome_letter, own_letter}
 use Rattle.laws.specs.Tests.{or_left, or_right}
-use Rattle.feed.specs.OutLines.{own_is_none, number_line, finish_line, event_line, lines_before, lines_behind, text_of, opening_line, all_lines}
+use Rattle.promises.specs.OutLines.{own_is_none, number_line, finish_line, event_line, lines_before, lines_behind, text_of, opening_line, all_lines}
 
 abbrev one_if : Bool → ℕ
 one_if b = cond b 1 0

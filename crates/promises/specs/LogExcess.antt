@@ -5,7 +5,7 @@ use Rattle.tables.specs.Layout.{book_words, sums_words}
 use Rattle.feed.specs.declared.Standing.{Standing}
 use Rattle.feed.specs.Feeding.{fed}
 use Rattle.feed.specs.Excess.{fed_excess}
-use Rattle.feed.specs.Callers.{Piece, Run, run, beginning, Caller, at_the_end}
+use Rattle.promises.specs.Callers.{Piece, Run, run, beginning, Caller, at_the_end}
 
 pub record RunExcessKept (old : List ℕ) (old_sums : List ℤ) (r : Run) : Type 0 where
   pub book : drop book_words r.book ≡ drop book_words old
