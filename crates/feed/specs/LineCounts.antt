@@ -80,7 +80,7 @@ module _ (letter : ℕ) (own : Answer → ℕ) (ended : Outcome → ℕ) (no_num
   unfolding opening_line
   count_opening o ls = count_one (opening_line o) ls ∙ rw no_opening (omega arith)
 
-  pub lines_counted : (o : Opened) → lines_of letter (text_of o)
+  lines_counted : (o : Opened) → lines_of letter (text_of o)
       ≡ sum_by (λ r. own r.answer) (steps (events_of o) (start o)) + sum_by (λ f. ended f.outcome) (finishes (events_of o) (start o))
   unfolding count
   lines_counted o =
