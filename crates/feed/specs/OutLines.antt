@@ -80,7 +80,7 @@ own_is_none (waits dc place send) = refl
 own_is_none (aborted dc reason send) = refl
 own_is_none voted = refl
 own_is_none changed = refl
-own_is_none (value at v) = refl
+own_is_none (value st v) = refl
 
 outcome_is_one : (o : Outcome) → (eqb (outcome_letter o) letter_c || eqb (outcome_letter o) letter_b) ≡ true
 outcome_is_one (version v) = refl

@@ -70,8 +70,8 @@ text_of_an_event o rs more e stands = ap (λ (all : List Record). text_behind al
 
 -- A log opens an engine or opens none.
 found_or {ℓ} : {A : Type 0} {C : Type ℓ} (x : Option A) → (x ≡ none → C) → ((a : A) → x ≡ some a → C) → C
-found_or none k f = k refl
-found_or (some a) k f = f a refl
+found_or none missing found = missing refl
+found_or (some a) missing found = found a refl
 
 module _ (c : Caller) (whole : Whole c) where
   -- "Every answer is the one that document 01's reading gives": whatever the pieces and the buffers, and whatever the tables held before.
