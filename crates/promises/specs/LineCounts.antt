@@ -80,7 +80,7 @@ module _ (letter : ℕ) (own : Answer → ℕ) (ended : Outcome → ℕ) (no_num
   unfolding opening_line
   count_opening o ls = count_one (opening_line o) ls ∙ rw no_opening (omega arith)
 
-  pub lines_counted : (o : Opened) → lines_of letter (text_of o)
+  lines_counted : (o : Opened) → lines_of letter (text_of o)
       ≡ sum_by (λ r. own r.answer) (steps (events_of o) (start o)) + sum_by (λ f. ended f.outcome) (finishes (events_of o) (start o))
   unfolding count
   lines_counted o =
@@ -101,7 +101,7 @@ own_w (waits dc place send) = refl
 own_w (aborted dc reason send) = refl
 own_w voted = refl
 own_w changed = refl
-own_w (value at v) = refl
+own_w (value st v) = refl
 
 own_a : (a : Answer) → one_if (eqb (own_letter a) letter_a) ≡ aborts_told a
 own_a (refused n) = refl
@@ -109,7 +109,7 @@ own_a (waits dc place send) = refl
 own_a (aborted dc reason send) = refl
 own_a voted = refl
 own_a changed = refl
-own_a (value at v) = refl
+own_a (value st v) = refl
 
 own_c : (a : Answer) → one_if (eqb (own_letter a) letter_c) ≡ 0
 own_c a = rw (or_left (eqb (own_letter a) letter_c) (eqb (own_letter a) letter_b) (own_is_none a))

@@ -92,7 +92,7 @@ module _ (P : Event → Answer → Type 0) (by_number : (e : Event) (n : ℕ) �
     (by_place : (t : Transaction) (dc place : ℕ) (send : Option Ballot) → P (delivery t) (waits dc place send))
     (by_reason : (t : Transaction) (dc reason : ℕ) (send : Option Ballot) → P (delivery t) (aborted dc reason send))
     (by_vote : (i p : ℕ) (b : Ballot) → P (vote i p b) voted) (by_change : (k : ℕ) → P (change k) changed)
-    (by_value : (key : ℕ) (st : Snapshot) (at : ℕ) (v : ℤ) → P (read key st) (value at v)) where
+    (by_value : (key : ℕ) (asked : Snapshot) (st : ℕ) (v : ℤ) → P (read key asked) (value st v)) where
   by_fate : (t : Transaction) (c : Clock) (send : Option Ballot) (f : Fate) → P (delivery t) (delivered c send f)
   unfolding delivered
   by_fate t c send (abort reason) = by_reason t c.dc reason send
@@ -115,7 +115,7 @@ own_letter (waits dc place send) = letter_w
 own_letter (aborted dc reason send) = letter_a
 own_letter voted = 86
 own_letter changed = 75
-own_letter (value at v) = 82
+own_letter (value st v) = 82
 
 refused_line : (e : Event) (n : ℕ) → OneLine 88 (answer_text e (refused n))
 unfolding answer_text delivery_text vote_text change_text read_text
@@ -132,4 +132,4 @@ own_line =
     (λ t dc reason send. one_line letter_a (field t.identity (field dc (field reason end))) refl (one_field t.identity _ (one_field dc _ (one_field reason end no_fields))))
     (λ i p b. one_line 86 (field i (field p end)) refl (one_field i _ (one_field p end no_fields)))
     (λ k. one_line 75 (field k end) refl (one_field k end no_fields))
-    (λ key st at v. one_line 82 (field key (field at (tab_byte ∷ (signed_text v ++ end)))) refl (one_field key _ (one_field at _ (value_field v))))
+    (λ key asked st v. one_line 82 (field key (field st (tab_byte ∷ (signed_text v ++ end)))) refl (one_field key _ (one_field st _ (value_field v))))

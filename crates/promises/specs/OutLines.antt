@@ -80,7 +80,7 @@ own_is_none (waits dc place send) = refl
 own_is_none (aborted dc reason send) = refl
 own_is_none voted = refl
 own_is_none changed = refl
-own_is_none (value at v) = refl
+own_is_none (value st v) = refl
 
 outcome_is_one : (o : Outcome) → (eqb (outcome_letter o) letter_c || eqb (outcome_letter o) letter_b) ≡ true
 outcome_is_one (version v) = refl
@@ -230,7 +230,7 @@ module _ (o : Opened) where
       ∙ omega arith
 
 -- The whole text of a log with none.
-pub unopened_lines : (rs : List Record) → lines (text_before rs) ≡ lines_before rs
+unopened_lines : (rs : List Record) → lines (text_before rs) ≡ lines_before rs
 unopened_lines rs = ap lines (sym (append-nil (text_before rs))) ∙ before_are rs [] ∙ ap (λ (ls : List (List ℕ)). lines_before rs ++ ls) no_lines ∙ append-nil (lines_before rs)
 
 pub unopened_line_each : (rs : List Record) → length (own_lines (text_before rs)) ≡ length rs

@@ -1,7 +1,7 @@
 -- What is promised of the bytes. Whoever gives a log to `feed`, in whatever pieces: what the calls write, and the ledger that the tables then hold, are those of document 01's rules, run
 -- over the records that the log's lines are. Callers and LogBytes have the words in which this is said, the rules have all else; each promise cites where it is proved. What an event's line
 -- says in 01's words is in LineMeanings; two logs as bytes, of which the third demand holds, are in RealBytes.
-use Rattle.std.specs.Prelude.{ℕ, ◌+◌, ◌≤◌, true, false, List, [], ◌∷◌, ◌++◌, map, ◌≡◌, refl, length}
+use Rattle.std.specs.Prelude.{ℕ, ◌+◌, ◌≤◌, true, false, List, [], ◌∷◌, ◌++◌, map, ◌↔◌, ◌≡◌, refl, length}
 use Rattle.std.proofs.Math.Option.{Option, none, some, some-injective, some-ne-none}
 use Rattle.std.proofs.Common.{sym, ap, ap₂, ◌∙◌, subst, arith, length-append}
 use Rattle.std.proofs.lemmas.List.{length-map}
@@ -57,6 +57,10 @@ pub record Counted (bytes : List ℕ) (s : State) : Type 0 where
   pub nothing_lost : lines_of letter_w bytes + lines_of letter_a bytes
       ≡ lines_of letter_c bytes + (lines_of letter_a bytes + lines_of letter_b bytes) + length s.waiting
 
+-- What opens a log is the first O whose sizes are in the table: it stands there, and none that is accepted stands before it.
+pub opens_exactly : (rs : List Record) (o : Opened) → opened_by rs ≡ some o ↔ Opening rs o
+opens_exactly = opened_exactly
+
 -- The text of one event behind an opening is that of its step, in the state behind the events before it: so `text_behind` and `steps` are one event after the other.
 pub text_of_an_event : (o : Opened) (rs more : List Record) (e : Event) → o.behind ≡ rs ++ event e ∷ more
     → let now = last (events_in rs) (start o) in
@@ -66,8 +70,8 @@ text_of_an_event o rs more e stands = ap (λ (all : List Record). text_behind al
 
 -- A log opens an engine or opens none.
 found_or {ℓ} : {A : Type 0} {C : Type ℓ} (x : Option A) → (x ≡ none → C) → ((a : A) → x ≡ some a → C) → C
-found_or none k f = k refl
-found_or (some a) k f = f a refl
+found_or none missing found = missing refl
+found_or (some a) missing found = found a refl
 
 module _ (c : Caller) (whole : Whole c) where
   -- "Every answer is the one that document 01's reading gives": whatever the pieces and the buffers, and whatever the tables held before.
