@@ -1,4 +1,5 @@
--- What C gets of each answer, in numbers alone: an auditor reads these beside include/telvrang.h. And what the engine gets of each flag that C gives.
+-- What C gets of each answer, in numbers alone, and what the engine gets of each flag that C gives: to be read beside include/telvrang.h. Of an opening C gets refusing's `told`: the
+-- number that refuses it, or 0.
 use Rattle.std.specs.Prelude.{ℕ, Bool, true, false, not, eqb, pos, Ok, Err, Some, None}
 use Rattle.std.proofs.Common.{Result}
 use Rattle.std.specs.declared.option.Option as code
