@@ -90,7 +90,7 @@ def bench(programs, events, runs, folder):
         compare(programs, log, folder)
         engine, plain, second = measure(programs, log, runs)
         times = ["%.2f s" % time for time in (engine, plain, second)]
-        row(["%s (`%s`)" % (name, shape)] + times + ["%.2f" % (engine / other) for other in (plain, second)])
+        row(["%s (`%s`)" % (name, shape)] + times + ["%.2f" % (engine / other) if other > 0 else "-" for other in (plain, second)])
 
 
 def machine():
