@@ -1,11 +1,11 @@
 #!/usr/bin/env python3
-"""Measures the program against two programs in ordinary Rust, on the logs of tools/make_log.py: host/plain scans its lists as the engine does, host/second counts by key.
+"""Measures the program against two in ordinary Rust, on the logs of tools/make_log.py: host/plain scans its lists as the engine does, host/second counts by key.
 
 usage: tools/bench.py [--events N] [--runs N] [--program PATH]
 
-Build first: ./telvrang --help, and cargo build --release in host/. Each log has a million events, or N. The three programs answer it in turn, five times each or N times,
-from a file and to /dev/null; a time is a run's user and system time, and the best run of each program counts. Where the machine has other work, it is quieter
-on one processor: taskset -c 0 tools/bench.py. The logs stand in a temporary folder, one at a time.
+Build first: ./telvrang --help, and cargo build --release in host/. Each log has a million events, or N. The three programs answer it in turn, five times each, or
+N times, from a file and to /dev/null; a time is a run's user and system time, and the best run of each program counts. Where the machine has other work, it is
+quieter on one processor: taskset -c 0 tools/bench.py. The logs stand in a temporary folder, one at a time.
 
 It is no test of speed: it fails only where the answers differ, which it looks at once for each log, or where a program does not end well.
 """
@@ -90,7 +90,7 @@ def bench(programs, events, runs, folder):
         compare(programs, log, folder)
         engine, plain, second = measure(programs, log, runs)
         times = ["%.2f s" % time for time in (engine, plain, second)]
-        row(["%s (`%s`)" % (name, shape)] + times + ["%.2f" % (engine / other) for other in (plain, second)])
+        row(["%s (`%s`)" % (name, shape)] + times + ["%.2f" % (engine / other) if other > 0 else "-" for other in (plain, second)])
 
 
 def machine():
