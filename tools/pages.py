@@ -1,21 +1,34 @@
 #!/usr/bin/env python3
-"""Holds the runs on the pages against a program.
+"""Holds the runs on the pages against a program, and the programs on them against the files that they are.
 
 usage: tools/pages.py PROGRAM PAGE..
 
 A run is a block of lines, each indented by four spaces, whose first line begins with O|. What goes in stands at the fifth place of a line, what comes out behind
-two spaces or more, `|` for the tab; a line that has spaces there says another thing that came out; what stands behind that is comment. The last line is
-'N runs passed, M failed', and the status is 0 only if M is 0 and N is above 0.
+two spaces or more, `|` for the tab; a line that has spaces there says another thing that came out; what stands behind that is comment. A program is a fenced block
+behind a line that ends with its file's name, as "(`host/c/short.c`):". The last line is 'N runs passed, M failed', and the status is 0 only if M is 0 and N is above 0.
 """
+import os
 import re
 import subprocess
 import sys
 
 
+TOP = os.path.dirname(os.path.dirname(os.path.abspath(__file__)))
+
+
+def text(path):
+    with open(path, encoding="utf-8") as file:
+        return file.read()
+
+
 def runs(page):
-    with open(page, encoding="utf-8") as file:
-        blocks = re.findall(r"(?:^    .*\n)+", file.read(), re.M)
+    blocks = re.findall(r"(?:^    .*\n)+", text(page), re.M)
     return [block.splitlines() for block in blocks if block.startswith("    O|")]
+
+
+def programs(page):
+    """The name of the file and the block; a block that names no file has an empty name."""
+    return re.findall(r"^.*?(?:\(`([^`]*)`\):)?\n\n```(?:c|rust)\n(.*?)^```$", text(page), re.M | re.S)
 
 
 def parts(lines):
@@ -40,6 +53,12 @@ def main():
             else:
                 failed += 1
                 print(f"{page}: the run differs: it gives\n{got.decode(errors='replace')}")
+        for name, block in programs(page):
+            if name and text(os.path.join(TOP, name)) == block:
+                passed += 1
+            else:
+                failed += 1
+                print(f"{page}: the program isn't the file that it names: {name or 'none'}")
     print(f"{passed} runs passed, {failed} failed")
     sys.exit(0 if failed == 0 and passed > 0 else 1)
 
