@@ -1,8 +1,11 @@
-//! A call by the library and by the model, and what differs.
+//! A call by the library and by the model, and what differs: the answer, or what is left in the memory that is lent.
 
 use model::{decode, fill, show_state, Answer, Call, Fate, Lent, Outcome, BOOK, BY_THE_LETTER, SUMS};
+use telvrang::lent::{Fed, Standing};
+use telvrang::FINISHES;
 
 use super::lent::Memory;
+use super::lines::answer_lines;
 use crate::counters::count_seen;
 
 pub fn compare(call: &Call, memory: &mut Memory) -> Result<(), String> {
@@ -13,42 +16,58 @@ pub fn compare(call: &Call, memory: &mut Memory) -> Result<(), String> {
     count(call, answer, &after);
     let wanted_answer = wanted.as_ref().map_or_else(|&number| Answer::Refused(number), |outcome| outcome.answer);
     if answer != wanted_answer {
-        return Err(format!("wanted {wanted_answer:?}, answered {answer:?}"));
+        return Err(format!("wanted {wanted_answer:?}\ngiven  {answer:?}"));
     }
-    if !memory.patterns_stand() {
-        return Err("memory beside the tables was written".to_string());
+    // "Finishes fill the finish list from its start; entries past their number keep what they held."
+    let mut finishes = before.finishes.clone();
+    fill(wanted.as_ref().map_or(&[], |outcome| &outcome.finishes), &mut finishes);
+    if after.finishes != finishes {
+        return Err(format!("wanted the finish list {finishes:?}\ngiven  {:?}", after.finishes));
     }
-    match wanted {
-        Err(_) if after == before => Ok(()),
-        Err(_) => Err("refused, and something that is lent was written".to_string()),
-        Ok(outcome) => compare_left(call, &outcome, before, &after),
-    }
+    compare_left(call, &wanted, before, after, memory)
 }
 
-/// "Finishes fill the finish list from its start; entries past their number keep what they held." "A longer lent table is taken and its excess never
-/// touched." A read "changes nothing".
-fn compare_left(call: &Call, outcome: &Outcome, mut before: Lent, after: &Lent) -> Result<(), String> {
-    let state = decode(&after.book, &after.sums);
-    if state.as_ref() != Some(&outcome.state) {
-        let left = state.map_or("no state".to_string(), |state| show_state(&state));
-        return Err(format!("wanted this to be left:\n{}\nleft:\n{left}", show_state(&outcome.state)));
+/// The call as a line of a log, which has a finish list of its own.
+pub fn compare_line(call: &Call, line: &str, memory: &mut Memory) -> Result<(), String> {
+    let before = memory.copy();
+    let wanted = BY_THE_LETTER.outcome(call, &Lent { finishes: vec![0; FINISHES], ..before.clone() });
+    let opens = matches!(call, Call::Open { .. });
+    let wanted_text = answer_lines(call, &wanted);
+    let standing = Standing { opened: !opens || wanted.is_ok(), skipping: false };
+    let wanted_fed = Fed { taken: line.len(), wrote: wanted_text.len(), full: false, standing };
+    let (fed, text) = memory.answer_line(line, !opens);
+    if fed != wanted_fed || text != wanted_text.as_bytes() {
+        return Err(format!("wanted {wanted_fed:?} and {wanted_text:?}\ngiven  {fed:?} and \"{}\"", text.escape_ascii()));
     }
-    fill(&outcome.finishes, &mut before.finishes);
-    if after.finishes != before.finishes {
-        return Err(format!("wanted the finishes {:?}, left {:?}", outcome.finishes, after.finishes));
+    compare_left(call, &wanted, before, memory.copy(), memory)
+}
+
+/// "leaves DC and all lent memory untouched", of a refusal. Of a read: "It changes nothing." "A longer lent table is taken and its excess never touched."
+fn compare_left(call: &Call, wanted: &Result<Outcome, u32>, before: Lent, after: Lent, memory: &Memory) -> Result<(), String> {
+    if !memory.patterns_stand() {
+        return Err("memory beside what is lent was written".to_string());
     }
+    let tables = (&after.book, &after.sums);
+    let unchanged = tables == (&before.book, &before.sums);
+    let outcome = match wanted {
+        Ok(outcome) if !matches!(call, Call::Read { .. }) => outcome,
+        _ if unchanged => return Ok(()),
+        _ => return Err("a refusal or a read changed the tables".to_string()),
+    };
     if after.book[BOOK..] != before.book[BOOK..] || after.sums[SUMS..] != before.sums[SUMS..] {
         return Err("the excess of longer tables was written".to_string());
     }
-    if matches!(call, Call::Read { .. }) && (after.book != before.book || after.sums != before.sums) {
-        return Err("a read changed the tables".to_string());
+    let state = decode(&after.book, &after.sums);
+    if state.as_ref() == Some(&outcome.state) {
+        return Ok(());
     }
-    Ok(())
+    let left = state.map_or("no state".to_string(), |state| show_state(&state));
+    Err(format!("wanted this to be left:\n{}\nleft:\n{left}", show_state(&outcome.state)))
 }
 
 /// Kinds of what is counted.
 const ANSWER: u32 = 16;
-const FINISHES: u32 = 32;
+const FINISHED: u32 = 32;
 const PLACE: u32 = 48;
 const WAITING: u32 = 49;
 
@@ -73,6 +92,6 @@ fn count(call: &Call, answer: Answer, after: &Lent) {
         }
     };
     count_seen(ANSWER + kind, detail);
-    count_seen(FINISHES + kind, finishes);
+    count_seen(FINISHED + kind, finishes);
     count_seen(WAITING, waiting);
 }

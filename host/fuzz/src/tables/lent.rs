@@ -1,7 +1,8 @@
 //! What is lent to a call, and what the library answers it, in the model's words.
 
 use model::{Answer, Call, Delivery, Fate, Lent};
-use telvrang::lent::{self, Ballot, Delivered, Reading, Refusal, Sizes, Transaction};
+use telvrang::lent::{self, Ballot, Delivered, Fed, Reading, Refusal, Sizes, Standing, Transaction};
+use telvrang::ANSWERS;
 
 use crate::pages::{Neighbour, Pages};
 
@@ -13,12 +14,23 @@ pub struct Memory {
     reads: Pages<u32>,
     keys: Pages<u32>,
     amounts: Pages<i64>,
+    line: Pages<u8>,
+    out: Pages<u8>,
 }
 
 impl Memory {
     pub fn new() -> Self {
-        let (book, sums, finishes) = (Pages::new(), Pages::new(), Pages::new());
-        Memory { neighbour: Neighbour::Upper, book, sums, finishes, reads: Pages::new(), keys: Pages::new(), amounts: Pages::new() }
+        Memory {
+            neighbour: Neighbour::Upper,
+            book: Pages::new(),
+            sums: Pages::new(),
+            finishes: Pages::new(),
+            reads: Pages::new(),
+            keys: Pages::new(),
+            amounts: Pages::new(),
+            line: Pages::new(),
+            out: Pages::new(),
+        }
     }
 
     pub fn hold(&mut self, lent: &Lent, neighbour: Neighbour) {
@@ -33,7 +45,7 @@ impl Memory {
     }
 
     pub fn patterns_stand(&self) -> bool {
-        self.book.pattern_stands() && self.sums.pattern_stands() && self.finishes.pattern_stands()
+        self.book.pattern_stands() && self.sums.pattern_stands() && self.finishes.pattern_stands() && self.out.pattern_stands()
     }
 
     pub fn answer(&mut self, call: &Call) -> Answer {
@@ -45,6 +57,15 @@ impl Memory {
             Call::Read { key, st } => self.read(*key, *st),
         };
         answer.unwrap_or_else(|refusal| Answer::Refused(refusal.number()))
+    }
+
+    /// The call as the last line of a log, with just the room that one event may need for its answers.
+    pub fn answer_line(&mut self, line: &str, opened: bool) -> (Fed, Vec<u8>) {
+        self.line.hold(line.as_bytes(), self.neighbour);
+        self.out.hold(&[0; ANSWERS], self.neighbour);
+        let standing = Standing { opened, skipping: false };
+        let fed = lent::feed(self.line.row(), true, standing, self.book.lend(), self.sums.lend(), self.out.lend());
+        (fed, self.out.row()[..fed.wrote.min(ANSWERS)].to_vec())
     }
 
     fn open(&mut self, sizes: Sizes) -> Result<Answer, Refusal> {

@@ -1,5 +1,6 @@
 //! The second target: an input says what three lent tables hold (an opened ledger, a sound state that no log need give, or any words), and then which calls
-//! come, now and then with a word of the book spoilt before. Each call is held against the model: its answer, and all that it leaves in what is lent.
+//! come, some of them as lines of a log, now and then with a word of the book spoilt before. Each call is held against the model: its answer, and all that it
+//! leaves in what is lent.
 
 mod keys;
 
@@ -9,6 +10,8 @@ mod spoil;
 
 mod lent;
 mod start;
+
+mod lines;
 
 mod compare;
 mod show;
@@ -20,8 +23,9 @@ use model::decode;
 use crate::bytes::Bytes;
 use crate::difference::{is_shown, tell};
 use calls::call;
-use compare::compare;
+use compare::{compare, compare_line};
 use lent::Memory;
+use lines::line;
 use show::{show_call, show_lent};
 use spoil::spoil;
 use start::start;
@@ -56,7 +60,10 @@ fn try_calls(bytes: &mut Bytes, memory: &mut Memory) -> Result<(), String> {
         if is_shown() {
             show_call(spoilt, &call);
         }
-        compare(&call, memory)?;
+        match line(&call) {
+            Some(line) if bytes.below(4) == 0 => compare_line(&call, &line, memory)?,
+            _ => compare(&call, memory)?,
+        }
         if let Some(spoilt) = spoilt {
             spoilt.put_back(memory.book.lend(), bytes);
         }

@@ -31,7 +31,10 @@ fn change(lines: &mut Vec<Vec<u8>>, random: &mut Random) {
             let other = random.place(lines.len() - 1);
             lines.swap(place, other);
         }
-        3 | 4 => lines.insert(place, line(random)),
+        3 | 4 => {
+            let identity = some_identity(lines, random);
+            lines.insert(place, line(&identity, random));
+        }
         5 if random.chance(100) => lines.insert(place, long_line(random)),
         _ if !run.is_empty() => {
             let other = lines[random.place(lines.len() - 1)].clone();
@@ -59,8 +62,14 @@ fn with_other_field(line: &[u8], other: &[u8], random: &mut Random) -> Vec<u8> {
     fields.join(&b'\t')
 }
 
-fn line(random: &mut Random) -> Vec<u8> {
-    let identity = 1 + random.below(40);
+/// That of a delivery in the log, if there is one where a few are looked for, so that votes find it.
+fn some_identity(lines: &[Vec<u8>], random: &mut Random) -> String {
+    let some = (0..4).filter_map(|_| lines.get(random.place(lines.len()))).find(|line| line.starts_with(b"D\t"));
+    let identity = some.and_then(|line| line.split(|&byte| byte == b'\t').nth(1));
+    identity.map_or_else(|| (1 + random.below(40)).to_string(), |identity| String::from_utf8_lossy(identity).into_owned())
+}
+
+fn line(identity: &str, random: &mut Random) -> Vec<u8> {
     let line = match random.below(12) {
         0 => format!("O\t{}\t{}\t{}", 1 + random.below(8), random.below(2), random.below(32)),
         1 => format!("K\t{}", random.below(33)),
@@ -68,6 +77,7 @@ fn line(random: &mut Random) -> Vec<u8> {
         3 => format!("R\t{}\t{}", random.below(12), random.below(6)),
         4..=6 => format!("V\t{identity}\t{}\t{}", random.below(3), random.one_of(&['Y', 'Y', 'N'])),
         _ => {
+            let identity = 1 + random.below(40);
             let set = random.one_of(&[1, 1, 3, 3, 2, 7]);
             format!("D\t{identity}\t{set}\t{}\t{}\t{}", random.below(4), keys(random), writes(random))
         }
