@@ -2,6 +2,7 @@ pub mod Splits
 pub mod Feeding
 pub mod Meaning
 pub mod Cutting
+pub mod Between
 pub mod Answering
 pub mod Taking
 pub mod Walking

@@ -1,14 +1,12 @@
 -- A log as calls of the feed, in any pieces: what all of them write together, and the state that C's tables then hold, are what the rules' program gives of the log.
-use Rattle.std.specs.Prelude.{ℕ, Bool, true, false, List, [], ◌∷◌, ◌++◌, ◌≤◌, ◌≡◌, refl, ℤ, length, take, drop}
-use Rattle.std.proofs.Math.Option.{Option}
+use Rattle.std.specs.Prelude.{ℕ, true, List, [], ◌∷◌, ◌++◌, ◌≤◌, ◌≡◌, refl, ℤ, length, take, drop}
 use Rattle.std.proofs.Common.{sym, ap, ◌∙◌, append_assoc, append-nil}
-use Rattle.rules.specs.Ledger.{State}
-use Rattle.rules.specs.Bytes.{split}
-use Rattle.rules.specs.Program.{Told, take_lines, whole_lines, run_text}
+use Rattle.rules.specs.Program.{Told, run_text}
 use Rattle.tables.specs.Layout.{book_words, sums_words}
 use Rattle.feed.specs.Feeding.{lent_memory, fed}
 use Rattle.feed.specs.Meaning.{ledger}
 use Rattle.feed.specs.Cutting.{rest}
+use Rattle.feed.specs.Between.{nothing_left}
 use Rattle.host.specs.Faces.{flagged, standing_of}
 use Rattle.host.specs.Left.{AfterPiece, fed_faced}
 use Rattle.host.specs.Pieces.{still_gives, Usable, goes_on}
@@ -73,12 +71,6 @@ follows (x ∷ xs) h usable ends =
       text = rw whole (one.text ∙ ap (λ (l : List ℕ). front ++ l) more.text ∙ sym (append_assoc front (answers xs (next x h)) _));
       ledger = rw whole (one.ledger ∙ more.ledger);
     }
-
--- Nothing is left: nothing more is told.
-nothing_left : (skipping : Bool) (l : Option State) → rest skipping [] l ≡ record { text = []; ledger = l }
-unfolding rest split whole_lines take_lines
-nothing_left true l = refl
-nothing_left false l = refl
 
 none_left : (h : Held) → gives h [] ≡ record { text = []; ledger = ledger (flagged h.opened) (lent_memory h.book h.sums) }
 unfolding still_gives

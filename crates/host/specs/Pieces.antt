@@ -4,14 +4,14 @@ use Rattle.std.specs.Prelude.{ℕ, Bool, true, false, List, [], ◌++◌, ◌≤
 use Rattle.std.proofs.Common.{sym, ap, ap₂, ◌∙◌, arith}
 use Rattle.rules.specs.Soundness.{sound}
 use Rattle.rules.specs.Program.{Told}
-use Rattle.laws.specs.Cuts.{cut, put, cut_put_same}
 use Rattle.tables.specs.Layout.{book_words, sums_words}
 use Rattle.tables.specs.View.{view}
 use Rattle.engine.specs.Calls.{Memory}
 use Rattle.feed.specs.declared.Standing.{Standing}
 use Rattle.feed.specs.Feeding.{feeding, lent_memory, fed}
-use Rattle.feed.specs.Meaning.{ledger, Fit}
-use Rattle.feed.specs.Cutting.{rest, rest_of, chunk_continues}
+use Rattle.feed.specs.Meaning.{Fit}
+use Rattle.feed.specs.Cutting.{rest_of, chunk_continues}
+use Rattle.feed.specs.Between.{same_rest, written}
 use Rattle.host.specs.Faces.{flagged, flag, standing_of}
 use Rattle.host.specs.Left.{AfterPiece, fed_faced}
 
@@ -33,19 +33,9 @@ flag_again false = refl
 standing_again : (p : Standing) → standing_of (flag p.opened) (flag p.skipping) ≡ p
 standing_again p = λ i. record { opened = flag_again p.opened i; skipping = flag_again p.skipping i }
 
--- A finish list has no part in the state.
-same_ledger : (is_open : Bool) (m : Memory) → ledger is_open (lent_memory m.book m.sums) ≡ ledger is_open m
-same_ledger true m = refl
-same_ledger false m = refl
-
-same_rest : (p : Standing) (m : Memory) (bytes : List ℕ) → still_gives (flag p.opened) (flag p.skipping) m.book m.sums bytes ≡ rest_of p m bytes
+gives_again : (p : Standing) (m : Memory) (bytes : List ℕ) → still_gives (flag p.opened) (flag p.skipping) m.book m.sums bytes ≡ rest_of p m bytes
 unfolding still_gives
-same_rest p m bytes = ap (λ (q : Standing). rest_of q (lent_memory m.book m.sums) bytes) (standing_again p) ∙ ap (rest p.skipping bytes) (same_ledger p.opened m)
-
--- What was written stands at the front of the buffer.
-written : (text out : List ℕ) → take (length text) (put out 0 text) ≡ text
-unfolding cut
-written text out = cut_put_same (length text) out 0 text refl (omega arith)
+gives_again p m bytes = ap (λ (q : Standing). rest_of q (lent_memory m.book m.sums) bytes) (standing_again p) ∙ sym (same_rest p m bytes)
 
 -- One call, whatever comes after it: what it leaves to C goes on as the log does.
 pub record GoesOn (opened skipping : ℕ) (book : List ℕ) (sums : List ℤ) (input future : List ℕ) (r : AfterPiece) : Type 0 where
@@ -65,9 +55,9 @@ module _ (opened skipping : ℕ) (book : List ℕ) (sums : List ℤ) (usable : U
   goes_on at_end input out future ends =
       let r = feeding (flagged at_end) (length out) input (standing_of opened skipping) (lent_memory book sums) in
       let k = chunk_continues (flagged at_end) (length out) input future ends (standing_of opened skipping) (lent_memory book sums) fit in
-      let same = same_rest r.standing r.memory (drop r.bytes input ++ future) in
+      let same = gives_again r.standing r.memory (drop r.bytes input ++ future) in
       record {
-        text = k.text ∙ ap₂ (λ (l m : List ℕ). l ++ m) (sym (written r.text out)) (ap (λ (t : Told). t.text) (sym same));
+        text = k.text ∙ ap₂ (λ (l m : List ℕ). l ++ m) (sym (written out r.text)) (ap (λ (t : Told). t.text) (sym same));
         ledger = k.ledger ∙ ap (λ (t : Told). t.ledger) (sym same);
         usable = record { long = k.fit.long.book; long_sums = k.fit.long.sums; sound = λ o. k.fit.sound (sym (flag_again r.standing.opened) ∙ o) };
       }

@@ -1,36 +1,18 @@
 -- A log may come in any pieces: what all calls write together, and the ledger that the tables hold after the last, are what the rules' program gives of the log in one piece.
-use Rattle.std.specs.Prelude.{ℕ, ◌+◌, Bool, true, false, List, [], ◌∷◌, ◌++◌, ◌≡◌, refl, ℤ, length, take, drop}
-use Rattle.std.proofs.Math.Option.{Option, none}
-use Rattle.std.proofs.Common.{sym, ap, ◌∙◌, arith, append_assoc, append-nil, take_at}
-use Rattle.rules.specs.Ledger.{State}
-use Rattle.rules.specs.Bytes.{split}
-use Rattle.rules.specs.Program.{Told, take_lines, whole_lines, run_text}
-use Rattle.laws.specs.Cuts.{put}
+use Rattle.std.specs.Prelude.{ℕ, Bool, false, List, [], ◌∷◌, ◌++◌, ◌≡◌, refl, ℤ, length, drop}
+use Rattle.std.proofs.Math.Option.{none}
+use Rattle.std.proofs.Common.{sym, ap, ◌∙◌, arith, append_assoc, append-nil}
+use Rattle.rules.specs.Program.{Told, run_text}
 use Rattle.engine.specs.Calls.{Memory}
 use Rattle.feed.specs.declared.Standing.{Standing}
 use Rattle.feed.specs.Feeding.{lent_memory, feeding}
-use Rattle.feed.specs.Meaning.{ledger, Fit}
+use Rattle.feed.specs.Meaning.{Fit}
 use Rattle.feed.specs.Cutting.{rest, rest_of, chunk_continues}
+use Rattle.feed.specs.Between.{tables_of, same_rest, written, nothing_left}
 use Rattle.promises.specs.Callers.{Piece, bytes_of, Ending, Run, run, beginning, Caller, log, at_the_end, out, ledger_of, Whole}
-
--- A call holds a finish list by itself, so of the memory that it leaves only the tables stay.
-abbrev pub tables_of : Memory → Memory
-tables_of m = lent_memory m.book m.sums
-
-pub same_ledger : (is_open : Bool) (m : Memory) → ledger is_open m ≡ ledger is_open (tables_of m)
-same_ledger true m = refl
-same_ledger false m = refl
-
-pub same_rest : (p : Standing) (m : Memory) (bytes : List ℕ) → rest_of p m bytes ≡ rest_of p (tables_of m) bytes
-same_rest p m bytes = ap (rest p.skipping bytes) (same_ledger p.opened m)
 
 fits_again : (is_open : Bool) (m : Memory) → Fit is_open m → Fit is_open (tables_of m)
 fits_again is_open m fit = record { long = record { book = fit.long.book; sums = fit.long.sums; room = omega arith }; sound = fit.sound }
-
--- What a call wrote stands in the front of its buffer.
-pub written : (buffer text : List ℕ) → take (length text) (put buffer 0 text) ≡ text
-unfolding put
-written buffer text = take_at text (drop (0 + length text) buffer) (length text) refl
 
 -- What a log gives from here on is the text that the calls wrote, and what it gives for the bytes that they left.
 record RunContinues (p : Standing) (m : Memory) (bytes : List ℕ) (r : Run) : Type 0 where
@@ -54,12 +36,6 @@ run_continues (x ∷ xs) left ends p book sums fit =
           (one.text ∙ ap (λ (t : Told). r.text ++ t.text) again ∙ ap (λ (l : List ℕ). r.text ++ l) more.text ∙ sym (append_assoc r.text _ _));
       ledger = rw (← whole) (one.ledger ∙ ap (λ (t : Told). t.ledger) again ∙ more.ledger);
     }
-
--- Nothing is left: nothing more is told.
-nothing_left : (skipping : Bool) (l : Option State) → rest skipping [] l ≡ record { text = []; ledger = l }
-unfolding rest split whole_lines take_lines
-nothing_left true l = refl
-nothing_left false l = refl
 
 module _ (c : Caller) (whole : Whole c) where
   starts : rest false (log c) none ≡ run_text (log c)

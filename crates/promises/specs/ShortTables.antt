@@ -12,7 +12,7 @@ use Rattle.feed.specs.declared.Standing.{Standing}
 use Rattle.feed.specs.Feeding.{line_record, recorded, whole_given, Taken, has_room, is_left, tail_taken, lines_taken, lent_memory}
 use Rattle.feed.specs.Cutting.{by_test}
 use Rattle.promises.specs.Callers.{Piece, Run, run, beginning, Caller, at_the_end, out, ledger_of}
-use Rattle.promises.specs.AnyCutting.{written}
+use Rattle.feed.specs.Between.{written}
 use Rattle.promises.specs.LogBytes.{text_before}
 use Rattle.promises.specs.LogEvents.{number_before, text_before_one}
 
