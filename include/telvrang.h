@@ -26,7 +26,8 @@
 // - While a call runs, no other thread writes to what it is lent, nor reads what it is lent without const. On different
 //   tables calls may run at the same time, and so may reads of the same ones.
 // - No null pointer goes to a function whose name ends in `_lent`, not even beside a length of 0. The functions without
-//   that ending take null pointers too: a null pointer is a list of no entries, whatever its length says.
+//   that ending take null pointers too: a null pointer is a list of no entries, whatever its length says; but reads,
+//   keys or amounts of a delivery that are null beside a length above 0 are refused by 13.
 //
 // WHAT IS ANSWERED. `refusal`, or of an opening the answer itself, is 0 or the number that refuses the call. "Every
 // refusal returns its number alone, finishes nothing, leaves DC and all lent memory untouched, and is given only when
@@ -46,11 +47,14 @@
 //     11  vote: that partition has voted on it
 //     12  change: k over 31
 //     13  opening: sizes outside the table (1 to 8 partitions, our own one of them, k 0 to 31); any event: state not
-//         sound; either: a lent table too short; delivery: not as many amounts as keys written
+//         sound; either: a lent table too short; delivery: not as many amounts as keys written, or a null list beside a
+//         length above 0
 //     14  a line that can't be read: told in the text of `telvrang_feed` alone
 //     15  delivery, vote, change: the lent finish list holds fewer than 32 entries
 //
-// SC is the version of the newest commit, DC counts the deliveries. docs/NUMBERS.md says what to do about each number.
+// SC is the version of the newest commit; DC counts the deliveries taken, also those aborted. Words 0 to 5 of a book are
+// the partitions, our own one, SC, DC, k and how many wait: they may be read, and are written by the library alone.
+// docs/NUMBERS.md says what to do about each number.
 #ifndef TELVRANG_H
 #define TELVRANG_H
 
@@ -137,11 +141,13 @@ telvrang_reading telvrang_read_newest_lent(uint32_t key, const uint32_t *book, s
 
 // Answers the next lines of a log as text, which may be cut anywhere (README.md shows its form). It holds a finish list
 // of its own, so 15 is never given.
-//   input              what the call before left of its input, and what is new behind it
+//   input              what the call before left of its input, and what is new behind it; a buffer of 513 bytes or more
+//                      always goes on
 //   at_end             0 while more may come, else the log ends with this input: its last line then needs no newline
-//   opened, skipping   0 and 0 for the first piece of a log, then what the call before answered; all but 0 is yes. The
-//                      tables are those that it left
-//   out                takes the answers: a line is answered where TELVRANG_ANSWERS bytes are free
+//   opened, skipping   0 and 0 for the first piece of a log (1 and 0 on tables in which a call has opened an engine),
+//                      then what the call before answered; all but 0 is yes. The tables are those that it left
+//   out                takes the answers: a line is answered where TELVRANG_ANSWERS bytes are free. With fewer bytes in
+//                      all no line is ever answered, and `full` stays 1
 telvrang_fed telvrang_feed_lent(const uint8_t *input, size_t input_bytes, uint32_t at_end, uint32_t opened,
                                 uint32_t skipping, uint32_t *book, size_t book_words, int64_t *sums, size_t sum_amounts,
                                 uint8_t *out, size_t out_bytes);

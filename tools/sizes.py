@@ -84,7 +84,7 @@ def page():
     yield f"| Lines that have to be believed: the definitions of `crates/rules/specs` | {lines(rest, '--'):,} |"
     yield f"| .. and beside them the document's runs and cases, on which those definitions are computed | {lines(cases, '--'):,} |"
     yield f"| Axioms of this repository | {axioms(names)} |"
-    yield f"| Public operations, on lent tables, on text and for C | {len(offered)} |"
+    yield f"| Public operations, on lent tables, on text and for C (`engine::looking`, the inner face, apart) | {len(offered)} |"
     yield f"| .. of them with a `requires`, or without an `ensures` | {sum('requires' in head.group(0) or 'ensures' not in head.group(0) for head in offered)} |"
     yield ""
     yield from table(names)

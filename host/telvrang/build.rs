@@ -19,7 +19,7 @@ fn main() -> ExitCode {
     println!("cargo:rerun-if-changed={}", library.display());
     if !library.is_file() {
         eprintln!("telvrang: the engine's static library is not there: {}", library.display());
-        eprintln!("telvrang: at the top of the repository, build it: cd crates/host && rt lib     (./check builds it too)");
+        eprintln!("telvrang: at the top of the repository, prove and build it: tools/built host     (./check builds it too)");
         eprintln!("telvrang: or name the folder that has libhost.a: {FOLDER}=FOLDER cargo build");
         return ExitCode::FAILURE;
     }

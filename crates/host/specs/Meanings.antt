@@ -1,5 +1,5 @@
--- What the exports mean: C's answer, with the tables that were lent, is the rules' desk on the state that the tables held, refusals included. Each is the engine's own meaning, said of
--- C's numbers.
+-- What the exports mean: C's answer, with the tables that were lent, is the rules' desk on the state that the tables held, refusals included, where the tables are long
+-- enough and as many amounts are lent as keys (for all else: Refusals). Each is the engine's own meaning, said of C's numbers.
 use Rattle.std.specs.Prelude.{ℕ, ◌/◌, ◌≤◌, true, List, ◌≡◌, ℤ, length, Some, None}
 use Rattle.std.proofs.Common.{◌∙◌, ap}
 use Rattle.rules.specs.Ledger.{sizes_fit, opening}

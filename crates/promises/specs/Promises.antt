@@ -202,7 +202,7 @@ demand_3_of_bytes b c b_whole c_whole o q b_opens c_opens same =
           ∙ sym (ledger_by_events c c_whole q c_opens);
     }
 
--- "either: a lent table too short": every line is refused by 13 or 14, no engine is opened, and the tables stay as they were.
+-- "either: a lent table too short": nothing but refusals by 13 and 14 is written, no engine is opened, and the tables stay as they were.
 pub short_tables : (c : Caller) → short c.book c.sums ≡ true → Untouched c
 short_tables = short_untouched
 

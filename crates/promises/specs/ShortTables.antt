@@ -1,4 +1,4 @@
--- Tables that are too short: no engine is opened in them, every line is refused by 13 or 14, and they stay as they were.
+-- Tables that are too short: no engine is opened in them, nothing but refusals by 13 and 14 is written, and they stay as they were.
 use Rattle.std.specs.Prelude.{ℕ, ◌-◌, Bool, true, false, ◌||◌, List, [], ◌∷◌, ◌++◌, ◌≡◌, refl, ltb, ℤ, length, drop}
 use Rattle.std.proofs.Math.Option.{none}
 use Rattle.std.proofs.Common.{sym, ap, ◌∙◌, append-nil, append_assoc}

@@ -80,7 +80,7 @@ pub struct Fed {
     pub taken: usize,
     /// So many bytes of answers.
     pub wrote: usize,
-    /// It stopped for want of room for more answers.
+    /// It stopped for want of room for more answers. With fewer than [`ANSWERS`](crate::ANSWERS) bytes of room in all it stays so: no line is ever answered.
     pub full: bool,
     /// How the log then stands.
     pub standing: Standing,

@@ -16,6 +16,8 @@ use crate::tables::Tables;
 ///
 /// Opening is refused by [`Refusal::Unusable`] alone, an event by 1 to 12 alone: the tables are long enough, and no one else writes to them.
 ///
+/// To store an engine, or to go on from a stored one, keep the two tables yourself and use [`lent`]: a copy of them is a copy of the engine.
+///
 /// ```
 /// use telvrang::{Ballot, Delivery, Engine, Fate, Finish, Refusal, Sizes};
 ///

@@ -39,7 +39,8 @@ pub enum Refusal {
     HasVoted = 11,
     /// "change: k over 31"
     Threshold = 12,
-    /// "opening: sizes outside the table; any event: state not sound; either: a lent table too short; program: event before opening, or a second opening"
+    /// "opening: sizes outside the table; any event: state not sound; either: a lent table too short; program: event before opening, or a second opening"; and a delivery on
+    /// lent tables that has not as many amounts as keys
     Unusable = 13,
     /// "program: unreadable line"
     Unreadable = 14,
