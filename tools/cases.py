@@ -5,7 +5,7 @@ usage: tools/cases.py PROGRAM
 
 Each case is run whole from standard input, whole from a file named as argument, and cut into pieces. A piece is one packet of a socket of type
 SOCK_SEQPACKET, so that each read of the program returns exactly one piece. Standard output is a file, so that nobody waits for anybody.
-Behind the cases stands what they can't ask: a file that isn't there, --help, a log far longer than a buffer, and an output that closes early.
+Behind the cases stands what they can't ask: a file that isn't there, two files, --help, a log far longer than a buffer, and an output that closes early.
 A case is counted once for each way it was run. A line for each run that differs; the last line is 'N cases passed, M failed', and the status is 0
 only if M is 0 and N is above 0.
 """
@@ -144,6 +144,12 @@ def missing_file(program, output):
     return child.returncode != 0 and child.stderr != b"" and child.stdout == b""
 
 
+def two_logs(program, output):
+    log = os.path.join(CASES, "whole-run.log")
+    child = subprocess.run([program, log, log], stdin=subprocess.DEVNULL, capture_output=True, timeout=LIMIT)
+    return child.returncode != 0 and child.stderr != b"" and child.stdout == b""
+
+
 def help_text(program, output):
     child = subprocess.run([program, "--help"], stdin=subprocess.DEVNULL, capture_output=True, timeout=LIMIT)
     return child.returncode == 0 and child.stdout != b""
@@ -193,6 +199,7 @@ def output_closed(program, output):
 
 MANNERS = (
     ("a file that isn't there", missing_file),
+    ("two files", two_logs),
     ("--help", help_text),
     ("a log of 200,001 lines", long_log),
     ("output that closes after a line", output_closes),

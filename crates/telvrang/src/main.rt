@@ -17,7 +17,7 @@ const CHUNK: usize = 65_536;
 
 const HELP: &str = "telvrang: the billing ledger of one partition of pilot stations
 
-    telvrang < LOG    answers the log on standard input
+    telvrang < LOG    answers the log on standard input, or what is typed, line by line
     telvrang LOG      answers the log in a file
 
 A log has one record a line, its fields parted by tabs: O opens an engine (partitions, own, k), D delivers a
@@ -165,7 +165,11 @@ fn main(rt: HostRuntime) -> io::Result<ExitCode> {
             run(rt.alloc(), rt.stdin(), rt.stdout()),
         ));
     };
-    if word.as_str() == "--help" {
+    if words.next().is_some() {
+        eprintln!(rt; "telvrang: one log at a time\n\n{HELP}")?;
+        return Ok(ExitCode::FAILURE);
+    }
+    if word.as_str() == "--help" || word.as_str() == "-h" {
         println!(rt; "{HELP}")?;
         return Ok(ExitCode::SUCCESS);
     }

@@ -26,17 +26,19 @@ fn answer_log(input: &mut dyn Read, output: &mut dyn Write) -> io::Result<()> {
     }
 }
 
-fn run(log: Option<String>) -> io::Result<()> {
+fn run(words: &[String]) -> io::Result<()> {
     let output = &mut io::stdout().lock();
-    match log.as_deref() {
-        None => answer_log(&mut io::stdin().lock(), output),
-        Some("--help") => writeln!(output, "{HELP}"),
-        Some(path) => answer_log(&mut File::open(path)?, output),
+    match words {
+        [] => answer_log(&mut io::stdin().lock(), output),
+        [word] if word == "--help" => writeln!(output, "{HELP}"),
+        [path] => answer_log(&mut File::open(path)?, output),
+        _ => Err(io::Error::new(ErrorKind::InvalidInput, HELP)),
     }
 }
 
 fn main() -> ExitCode {
-    match run(env::args().nth(1)) {
+    let words: Vec<String> = env::args().skip(1).collect();
+    match run(&words) {
         Ok(()) => ExitCode::SUCCESS,
         // Nobody reads the answers any more: an end like any other.
         Err(error) if error.kind() == ErrorKind::BrokenPipe => ExitCode::SUCCESS,
